@@ -1,0 +1,1 @@
+// Decimal numbers, fields and lines on lent bytes.
