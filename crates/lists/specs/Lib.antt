@@ -1,0 +1,19 @@
+-- Lists of numbers and tables: the names that other crates use.
+pub mod Test
+pub mod Count
+pub mod Order
+pub mod Table
+pub mod TestLaws
+pub mod CountLaws
+pub mod OrderLaws
+pub mod TableLaws
+pub mod FirstLaws
+unfoldable pub use Test.*
+unfoldable pub use Count.*
+unfoldable pub use Order.*
+unfoldable pub use Table.*
+pub use TestLaws.*
+pub use CountLaws.*
+pub use OrderLaws.*
+pub use TableLaws.*
+pub use FirstLaws.*

@@ -1,0 +1,280 @@
+-- Laws of ordered lists: counts and order after an insertion, the stable order, the first of least key.
+use mathlib.Core.Path.{_≡_, refl, ap, sym, _∙_}
+use mathlib.Core.List.{List, [], _∷_, _++_}
+use mathlib.Core.Bool.{Bool, true, false, cond, not}
+use mathlib.Core.Logic.{_⊎_, inl, inr}
+use mathlib.Core.Option.{Option, none, some}
+use Prim.Native.Nat.{ℕ, zero, suc, _+_, _≤_, _<_}
+use native.Mathlib.Omega.{arith}
+use native.Mathlib.Decide.{ℕ-discrete, decLt}
+use lib.Dec.{ltb, leb, eqb}
+use lib.ListN.{length}
+use borrow.Author.Tests.{eq-eqb, ne-eqb, ltb-true, ltb-false, lt-ltb, le-ltb, leb-true, leb-false, le-leb, eqb-true, eqb-false, not-true, not-false}
+use Rattle.lists.specs.Test.{_and_, _or_}
+use Rattle.lists.specs.Count.{eqn, occ, member, below}
+use Rattle.lists.specs.Order.{keep, upTo, byId, place, insertTail, insertHead, insertAll, stable, Asc, ascb, Ties, tiesb, firstAt, orElse, firstFrom, leastOf, leastFirst, before, inside}
+use Rattle.lists.specs.TestLaws.{which, clash, by-test, and-l, and-r, true-and, or-true, or-l, or-r, none-some, some-same}
+use Rattle.lists.specs.CountLaws.{eqn-at, eqn-other, eqn-eq, occ-append, occ-head, below-out, below-le, below-suc}
+
+pub occ-place : (p : ℕ → Bool) (x y : ℕ) (l : List ℕ) → occ y (place p x l) ≡ eqn x y + occ y l
+unfolding occ place
+occ-place p x y [] = refl
+occ-place p x y (z ∷ l) = elim (which (p z)) [ inl e ↦ rw e refl | inr e ↦ rw e (omega (arith, occ-place p x y l)) ]
+
+-- the first has the least key
+pub asc-first : (f : ℕ → ℕ) (z : ℕ) (l : List ℕ) → Asc f (z ∷ l) → (y : ℕ) → 1 ≤ occ y (z ∷ l) → f z ≤ f y
+unfolding occ
+asc-first f z l a y m = elim (ℕ-discrete z y) [ yes e ↦ omega (arith, ap f e) | no n ↦ a .0 y (omega (arith, eqn-other z y n)) ]
+
+asc-place : (f : ℕ → ℕ) (p : ℕ → Bool) (x : ℕ) → ((y : ℕ) → p y ≡ true → f x ≤ f y) → ((y : ℕ) → p y ≡ false → f y ≤ f x)
+    → (l : List ℕ) → Asc f l → Asc f (place p x l)
+unfolding occ place
+asc-place f p x lo hi [] a = ((λ y m. absurd (omega arith)), tt)
+asc-place f p x lo hi (z ∷ l) a = elim (which (p z)) [
+  | inl e ↦ rw e ((λ y m. omega (arith, lo z e, asc-first f z l a y m)), a)
+  | inr e ↦ rw e (
+    (λ y m. elim (ℕ-discrete x y) [
+      | yes q ↦ omega (arith, hi z e, ap f q)
+      | no n ↦ a .0 y (omega (arith, occ-place p x y l, eqn-other x y n))
+    ]),
+    asc-place f p x lo hi l (a .1),
+  )
+]
+
+pub asc-insertTail : (f : ℕ → ℕ) (x : ℕ) (l : List ℕ) → Asc f l → Asc f (insertTail f x l)
+unfolding insertTail
+asc-insertTail f x = asc-place f _ x (λ y e. omega (arith, ltb-true)) (λ y e. omega (arith, ltb-false))
+
+pub asc-insertHead : (f : ℕ → ℕ) (x : ℕ) (l : List ℕ) → Asc f l → Asc f (insertHead f x l)
+unfolding insertHead
+asc-insertHead f x = asc-place f _ x (λ y e. omega (arith, leb-true)) (λ y e. omega (arith, leb-false))
+
+asc-insertAll : (f : ℕ → ℕ) (xs l : List ℕ) → Asc f l → Asc f (insertAll f xs l)
+unfolding insertAll
+asc-insertAll f [] l a = a
+asc-insertAll f (x ∷ xs) l a = asc-insertAll f xs (insertTail f x l) (asc-insertTail f x l a)
+
+occ-insertAll : (f : ℕ → ℕ) (y : ℕ) (xs l : List ℕ) → occ y (insertAll f xs l) ≡ occ y xs + occ y l
+unfolding insertAll insertTail occ
+occ-insertAll f y [] l = omega arith
+occ-insertAll f y (x ∷ xs) l = omega (arith, occ-insertAll f y xs (insertTail f x l), occ-place (λ z. ltb (f x) (f z)) x y l)
+
+-- the stable order is ascending and loses nothing, whatever the list was
+pub asc-stable : (f : ℕ → ℕ) (l : List ℕ) → Asc f (stable f l)
+unfolding stable
+asc-stable f l = asc-insertAll f l [] tt
+
+pub occ-stable : (f : ℕ → ℕ) (y : ℕ) (l : List ℕ) → occ y (stable f l) ≡ occ y l
+unfolding stable occ
+occ-stable f y l = omega (arith, occ-insertAll f y l [])
+
+-- one whose key is at least every other's goes to the end
+tail-last : (f : ℕ → ℕ) (x : ℕ) (l : List ℕ) → ((y : ℕ) → 1 ≤ occ y l → f y ≤ f x) → insertTail f x l ≡ l ++ (x ∷ [])
+unfolding insertTail place occ
+tail-last f x [] h = refl
+tail-last f x (z ∷ l) h = rw (le-ltb (f x) (f z) (h z (occ-head z l))) (ap (z ∷_) (tail-last f x l (λ y m. h y (omega arith))))
+
+insertAll-asc : (f : ℕ → ℕ) (xs l : List ℕ) → Asc f xs → ((x y : ℕ) → 1 ≤ occ x xs → 1 ≤ occ y l → f y ≤ f x) → insertAll f xs l ≡ l ++ xs
+unfolding insertAll occ
+insertAll-asc f [] l a h = sym (nil l)
+  where
+    nil : (l : List ℕ) → l ++ [] ≡ l
+    nil [] = refl
+    nil (x ∷ l) = ap (x ∷_) (nil l)
+insertAll-asc f (x ∷ xs) l a h =
+    rw (tail-last f x l (λ y m. h x y (occ-head x xs) m))
+    (insertAll-asc f xs (l ++ (x ∷ [])) (a .1) (λ u y m k. elim (ℕ-discrete x y) [
+      | yes e ↦ omega (arith, a .0 u m, ap f e)
+      | no n ↦ h u y (omega arith) (omega (arith, occ-append y l (x ∷ []), eqn-other x y n))
+    ]) ∙ shift l)
+  where
+    shift : (l : List ℕ) → (l ++ (x ∷ [])) ++ xs ≡ l ++ (x ∷ xs)
+    shift [] = refl
+    shift (z ∷ l) = ap (z ∷_) (shift l)
+
+-- a list that is ascending already stays as it is
+pub stable-asc : (f : ℕ → ℕ) (l : List ℕ) → Asc f l → stable f l ≡ l
+unfolding stable occ
+stable-asc f l a = insertAll-asc f l [] a (λ x y m k. absurd (omega arith))
+
+insertAll-append : (f : ℕ → ℕ) (xs ys l : List ℕ) → insertAll f (xs ++ ys) l ≡ insertAll f ys (insertAll f xs l)
+unfolding insertAll
+insertAll-append f [] ys l = refl
+insertAll-append f (x ∷ xs) ys l = insertAll-append f xs ys (insertTail f x l)
+
+-- one more behind
+pub stable-snoc : (f : ℕ → ℕ) (l : List ℕ) (x : ℕ) → stable f (l ++ (x ∷ [])) ≡ insertTail f x (stable f l)
+unfolding stable insertAll
+stable-snoc f l x = insertAll-append f l (x ∷ []) []
+
+-- what a test keeps of a list
+pub occ-kept : (p : ℕ → Bool) (y : ℕ) (l : List ℕ) → p y ≡ true → occ y (keep p l) ≡ occ y l
+unfolding occ keep
+occ-kept p y [] h = refl
+occ-kept p y (x ∷ l) h = elim (which (p x)) [
+  | inl e ↦ rw e (omega (arith, occ-kept p y l h))
+  | inr e ↦ rw e (omega (arith, occ-kept p y l h, eqn-other x y (λ q. clash (rw q h) e)))
+]
+
+pub occ-dropped : (p : ℕ → Bool) (y : ℕ) (l : List ℕ) → p y ≡ false → occ y (keep p l) ≡ 0
+unfolding occ keep
+occ-dropped p y [] h = refl
+occ-dropped p y (x ∷ l) h = elim (which (p x)) [
+  | inl e ↦ rw e (omega (arith, occ-dropped p y l h, eqn-other x y (λ q. clash e (rw q h))))
+  | inr e ↦ rw e (occ-dropped p y l h)
+]
+
+pub keep-all : (p : ℕ → Bool) (l : List ℕ) → ((y : ℕ) → 1 ≤ occ y l → p y ≡ true) → keep p l ≡ l
+unfolding keep occ
+keep-all p [] h = refl
+keep-all p (x ∷ l) h = rw (h x (occ-head x l)) (ap (x ∷_) (keep-all p l (λ y m. h y (omega arith))))
+
+pub keep-none : (p : ℕ → Bool) (l : List ℕ) → ((y : ℕ) → 1 ≤ occ y l → p y ≡ false) → keep p l ≡ []
+unfolding keep occ
+keep-none p [] h = refl
+keep-none p (x ∷ l) h = rw (h x (occ-head x l)) (keep-none p l (λ y m. h y (omega arith)))
+
+pub keep-append : (p : ℕ → Bool) (s t : List ℕ) → keep p (s ++ t) ≡ keep p s ++ keep p t
+unfolding keep
+keep-append p [] t = refl
+keep-append p (x ∷ s) t = elim (which (p x)) [ inl e ↦ rw e (ap (x ∷_) (keep-append p s t)) | inr e ↦ rw e (keep-append p s t) ]
+
+pub occ-upTo : (i n : ℕ) → occ i (upTo n) ≡ below i n
+unfolding upTo occ
+occ-upTo i zero = omega (arith, below-out i 0 (omega arith))
+occ-upTo i (suc n) = omega (arith, occ-append i (upTo n) (n ∷ []), occ-upTo i n, below-suc i n)
+
+-- the members of l by number
+pub occ-byId : (i n : ℕ) (l : List ℕ) → occ i l ≤ below i n → occ i (byId n (λ j. member j l)) ≡ occ i l
+unfolding byId
+occ-byId i n l h = elim (which (member i l)) [
+  | inl e ↦ omega (arith, occ-kept (λ j. member j l) i (upTo n) e, occ-upTo i n, ltb-true 0 (occ i l) e, below-le i n)
+  | inr e ↦ omega (arith, occ-dropped (λ j. member j l) i (upTo n) e, ltb-false 0 (occ i l) e)
+]
+
+-- those of l that pass stay, and the others by number
+pub occ-split : (i n : ℕ) (same : ℕ → Bool) (l : List ℕ) → occ i l ≤ below i n
+    → occ i (keep same l) + occ i (byId n (λ j. not (same j) and member j l)) ≡ occ i l
+unfolding byId _and_
+occ-split i n same l h = elim (which (same i)) [
+  | inl e ↦ omega (arith, occ-kept same i l e, occ-dropped p i (upTo n) (rw e refl))
+  | inr e ↦ elim (which (member i l)) [
+    | inl m ↦ omega (arith, occ-dropped same i l e, occ-kept p i (upTo n) (rw (e, m) refl), occ-upTo i n, ltb-true 0 (occ i l) m, below-le i n)
+    | inr m ↦ omega (arith, occ-dropped same i l e, occ-dropped p i (upTo n) (rw (e, m) refl), ltb-false 0 (occ i l) m)
+  ]
+]
+  where
+    p : ℕ → Bool
+    p j = not (same j) and member j l
+
+-- ascending order and its test
+pub asc-true : (f : ℕ → ℕ) (l : List ℕ) → ascb f l ≡ true → Asc f l
+unfolding ascb occ
+asc-true f [] e = tt
+asc-true f (x ∷ []) e = ((λ y m. absurd (omega arith)), tt)
+asc-true f (x ∷ y ∷ l) e = let a = asc-true f (y ∷ l) (and-r _ _ e) in
+    ((λ z m. omega (arith, leb-true (f x) (f y) (and-l _ _ e), asc-first f y l a z m)), a)
+
+pub true-asc : (f : ℕ → ℕ) (l : List ℕ) → Asc f l → ascb f l ≡ true
+unfolding ascb occ
+true-asc f [] a = refl
+true-asc f (x ∷ []) a = refl
+true-asc f (x ∷ y ∷ l) a = true-and _ _ (le-leb (f x) (f y) (a .0 y (occ-head y l))) (true-asc f (y ∷ l) (a .1))
+
+-- equal keys by number, and its test
+pub ties-true : (f : ℕ → ℕ) (l : List ℕ) → Asc f l → tiesb f l ≡ true → Ties f l
+unfolding tiesb occ
+ties-true f [] a e = tt
+ties-true f (x ∷ []) a e = ((λ y m q. absurd (omega arith)), tt)
+ties-true f (x ∷ y ∷ l) a e = let t = ties-true f (y ∷ l) (a .1) (and-r _ _ e) in ((λ z m q. go z m q (t .0)), t)
+  where
+    step : f x ≡ f y → x < y
+    step q = elim (or-true (not (eqb (f x) (f y))) (ltb x y) (and-l _ _ e)) [
+      | inl u ↦ absurd (clash (eq-eqb (f x) (f y) q) (not-true (eqb (f x) (f y)) u))
+      | inr u ↦ ltb-true x y u
+    ]
+
+    go : (z : ℕ) → 1 ≤ occ z (y ∷ l) → f x ≡ f z → ((z : ℕ) → 1 ≤ occ z l → f y ≡ f z → y < z) → x < z
+    go z m q r = elim (ℕ-discrete y z) [
+      | yes u ↦ omega (arith, step (q ∙ ap f (sym u)))
+      | no n ↦ (let k : 1 ≤ occ z l = omega (arith, eqn-other y z n) in
+          let v : f x ≡ f y = omega (arith, a .0 y (occ-head y l), a .1 .0 z k) in omega (arith, step v, r z k (sym v ∙ q)))
+    ]
+
+pub true-ties : (f : ℕ → ℕ) (l : List ℕ) → Ties f l → tiesb f l ≡ true
+unfolding tiesb occ
+true-ties f [] t = refl
+true-ties f (x ∷ []) t = refl
+true-ties f (x ∷ y ∷ l) t = true-and _ _ (elim (which (eqb (f x) (f y))) [
+  | inl e ↦ or-r _ _ (lt-ltb x y (t .0 y (occ-head y l) (eqb-true (f x) (f y) e)))
+  | inr e ↦ or-l _ _ (rw e refl)
+]) (true-ties f (y ∷ l) (t .1))
+
+-- a number above all others goes behind its equals
+pub ties-insertTail : (f : ℕ → ℕ) (x : ℕ) (l : List ℕ) → Asc f l → ((y : ℕ) → 1 ≤ occ y l → y < x) → Ties f l → Ties f (insertTail f x l)
+unfolding insertTail place occ
+ties-insertTail f x [] a h t = ((λ y m q. absurd (omega arith)), tt)
+ties-insertTail f x (z ∷ l) a h t = elim (which (ltb (f x) (f z))) [
+  | inl e ↦ rw e ((λ y m q. absurd (omega (arith, ltb-true (f x) (f z) e, asc-first f z l a y m))), t)
+  | inr e ↦ rw e (
+    (λ y m q. elim (ℕ-discrete x y) [
+      | yes u ↦ omega (arith, h z (occ-head z l))
+      | no n ↦ t .0 y (omega (arith, occ-place (λ w. ltb (f x) (f w)) x y l, eqn-other x y n)) q
+    ]),
+    ties-insertTail f x l (a .1) (λ y m. h y (omega arith)) (t .1),
+  )
+]
+
+-- another key that agrees on the list
+pub asc-change : (f g : ℕ → ℕ) (l : List ℕ) → ((y : ℕ) → 1 ≤ occ y l → f y ≡ g y) → Asc f l → Asc g l
+unfolding occ
+asc-change f g [] h a = tt
+asc-change f g (x ∷ l) h a =
+    ((λ y m. omega (arith, a .0 y m, h x (occ-head x l), h y (omega arith))), asc-change f g l (λ y m. h y (omega arith)) (a .1))
+
+pub ties-change : (f g : ℕ → ℕ) (l : List ℕ) → ((y : ℕ) → 1 ≤ occ y l → f y ≡ g y) → Ties f l → Ties g l
+unfolding occ
+ties-change f g [] h t = tt
+ties-change f g (x ∷ l) h t =
+    ((λ y m q. t .0 y m (omega (arith, q, h x (occ-head x l), h y (omega arith)))), ties-change f g l (λ y m. h y (omega arith)) (t .1))
+
+-- the numbers of a list are below n
+pub inside-true : (n : ℕ) (l : List ℕ) → inside n l ≡ true → (i : ℕ) → n ≤ i → occ i l ≡ 0
+unfolding inside occ
+inside-true n [] e i h = refl
+inside-true n (x ∷ l) e i h = omega (arith, inside-true n l (and-r _ _ e) i h, eqn-other x i (λ q. omega (arith, ltb-true x n (and-l _ _ e))))
+
+pub true-inside : (n : ℕ) (l : List ℕ) → ((i : ℕ) → n ≤ i → occ i l ≡ 0) → inside n l ≡ true
+unfolding inside occ
+true-inside n [] h = refl
+true-inside n (x ∷ l) h = true-and _ _ (lt-ltb x n (elim (decLt x n) [ yes q ↦ q | no q ↦ absurd (omega (arith, h x (omega arith), eqn-at x x refl)) ])) (true-inside n l (λ i q. omega (arith, h i q)))
+
+-- the first of least key is in the list
+least-in : (f : ℕ → ℕ) (x : ℕ) (l : List ℕ) → 1 ≤ occ (leastOf f x l) (x ∷ l)
+unfolding leastOf occ
+least-in f x [] = omega (arith, eqn-at x x refl)
+least-in f x (y ∷ l) = elim (which (ltb (f y) (f x))) [
+  | inl e ↦ rw e (omega (arith, least-in f y l))
+  | inr e ↦ rw e (omega (arith, least-in f x l))
+]
+
+pub least-some : (f : ℕ → ℕ) (l : List ℕ) (w : ℕ) → leastFirst f l ≡ some w → 1 ≤ occ w l
+unfolding leastFirst
+least-some f [] w e = none-some refl e
+least-some f (x ∷ l) w e = let q : leastOf f x l ≡ w = cc in rw q at (least-in f x l)
+
+pub least-none : (f : ℕ → ℕ) (l : List ℕ) → leastFirst f l ≡ none → (i : ℕ) → occ i l ≡ 0
+unfolding leastFirst occ
+least-none f [] e i = refl
+least-none f (x ∷ l) e i = none-some e refl
+
+-- up to the first x: without x, and nothing twice that was not there twice
+pub occ-before : (x y : ℕ) (l : List ℕ) → occ y (before x l) ≤ occ y l
+unfolding before occ
+occ-before x y [] = omega arith
+occ-before x y (z ∷ l) = by-test (λ (t : List ℕ). occ y t ≤ eqn z y + occ y l) (eqb z x) (λ e. omega arith) (λ e. omega (arith, occ-before x y l))
+
+pub before-without : (x : ℕ) (l : List ℕ) → occ x (before x l) ≡ 0
+unfolding before occ
+before-without x [] = refl
+before-without x (z ∷ l) = by-test (λ (t : List ℕ). occ x t ≡ 0) (eqb z x) (λ e. refl) (λ e. omega (arith, before-without x l, eqn-other z x (eqb-false z x e)))

@@ -1,0 +1,13 @@
+-- Tables as lists: an element changed by its place.
+use mathlib.Core.List.{List, [], _∷_}
+use mathlib.Core.Bool.{Bool, cond}
+use Prim.Native.Nat.{ℕ, zero, suc}
+
+-- each element changed by a function of its place
+unfoldable pub edit : {A : Type 0} → (ℕ → A → A) → List A → List A
+edit f [] = []
+edit f (x ∷ l) = f 0 x ∷ edit (λ i. f (suc i)) l
+
+-- at the places that pass the test, what v gives for the place
+abbrev pub putWhere : {A : Type 0} → (ℕ → Bool) → (ℕ → A) → List A → List A
+putWhere p v l = edit (λ i x. cond (p i) (v i) x) l

@@ -1,0 +1,1 @@
+// Lists, counts, orders and tables: definitions and laws only (see specs/).
