@@ -8,12 +8,3 @@ pub mod CountLaws
 pub mod OrderLaws
 pub mod TableLaws
 pub mod FirstLaws
-unfoldable pub use Test.*
-unfoldable pub use Count.*
-unfoldable pub use Order.*
-unfoldable pub use Table.*
-pub use TestLaws.*
-pub use CountLaws.*
-pub use OrderLaws.*
-pub use TableLaws.*
-pub use FirstLaws.*

@@ -1,12 +1,12 @@
 -- Lists in ascending order of a key: places at the tail and at the head of a key's run, and the stable order.
 use mathlib.Core.Path.{_≡_}
 use mathlib.Core.List.{List, [], _∷_, _++_}
-use mathlib.Core.Bool.{Bool, true, false, cond, not}
+use mathlib.Core.Bool.{Bool, true, cond, not}
 use mathlib.Core.Option.{Option, none, some}
 use Prim.Native.Nat.{ℕ, zero, suc, _≤_, _<_}
 use lib.Dec.{ltb, leb, eqb}
 use Rattle.lists.specs.Test.{_and_, _or_}
-use Rattle.lists.specs.Count.{occ, member}
+use Rattle.lists.specs.Count.{occ}
 
 -- what passes the test, in its order
 unfoldable pub keep : (ℕ → Bool) → List ℕ → List ℕ

@@ -1,20 +1,19 @@
 -- Laws of ordered lists: counts and order after an insertion, the stable order, the first of least key.
 use mathlib.Core.Path.{_≡_, refl, ap, sym, _∙_}
 use mathlib.Core.List.{List, [], _∷_, _++_}
-use mathlib.Core.Bool.{Bool, true, false, cond, not}
-use mathlib.Core.Logic.{_⊎_, inl, inr}
-use mathlib.Core.Option.{Option, none, some}
+use mathlib.Core.Bool.{Bool, true, false, not}
+use mathlib.Core.Logic.{inl, inr}
+use mathlib.Core.Option.{none, some}
 use Prim.Native.Nat.{ℕ, zero, suc, _+_, _≤_, _<_}
 use native.Mathlib.Omega.{arith}
 use native.Mathlib.Decide.{ℕ-discrete, decLt}
-use lib.Dec.{ltb, leb, eqb}
-use lib.ListN.{length}
-use borrow.Author.Tests.{eq-eqb, ne-eqb, ltb-true, ltb-false, lt-ltb, le-ltb, leb-true, leb-false, le-leb, eqb-true, eqb-false, not-true, not-false}
-use Rattle.lists.specs.Test.{_and_, _or_}
+use lib.Dec.{ltb, eqb}
+use borrow.Author.Tests.{ltb-true, ltb-false, leb-true, leb-false, eqb-true, eqb-false, not-true, lt-ltb, le-ltb, le-leb, eq-eqb}
+use Rattle.lists.specs.Test.{_and_}
 use Rattle.lists.specs.Count.{eqn, occ, member, below}
-use Rattle.lists.specs.Order.{keep, upTo, byId, place, insertTail, insertHead, insertAll, stable, Asc, ascb, Ties, tiesb, firstAt, orElse, firstFrom, leastOf, leastFirst, before, inside}
-use Rattle.lists.specs.TestLaws.{which, clash, by-test, and-l, and-r, true-and, or-true, or-l, or-r, none-some, some-same}
-use Rattle.lists.specs.CountLaws.{eqn-at, eqn-other, eqn-eq, occ-append, occ-head, below-out, below-le, below-suc}
+use Rattle.lists.specs.Order.{keep, upTo, byId, place, insertTail, insertHead, insertAll, stable, Asc, ascb, Ties, tiesb, leastOf, leastFirst, before, inside}
+use Rattle.lists.specs.TestLaws.{which, clash, by-test, and-l, and-r, true-and, or-true, or-l, or-r, none-some}
+use Rattle.lists.specs.CountLaws.{eqn-at, eqn-other, occ-append, occ-head, below-out, below-le, below-suc}
 
 pub occ-place : (p : ℕ → Bool) (x y : ℕ) (l : List ℕ) → occ y (place p x l) ≡ eqn x y + occ y l
 unfolding occ place

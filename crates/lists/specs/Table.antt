@@ -1,7 +1,7 @@
 -- Tables as lists: an element changed by its place.
 use mathlib.Core.List.{List, [], _∷_}
 use mathlib.Core.Bool.{Bool, cond}
-use Prim.Native.Nat.{ℕ, zero, suc}
+use Prim.Native.Nat.{ℕ, suc}
 
 -- each element changed by a function of its place
 unfoldable pub edit : {A : Type 0} → (ℕ → A → A) → List A → List A

@@ -1,11 +1,10 @@
 -- Laws of tables: what stands at a place after a table grew or was changed by places.
-use mathlib.Core.Path.{_≡_, refl, ap, sym, _∙_}
+use mathlib.Core.Path.{_≡_, refl, ap, sym}
 use mathlib.Core.List.{List, [], _∷_, _++_}
-use mathlib.Core.Bool.{Bool, true, false, cond}
-use Prim.Native.Nat.{ℕ, zero, suc, _+_, _≤_, _<_}
+use Prim.Native.Nat.{ℕ, zero, suc, _<_}
 use native.Mathlib.Omega.{arith}
 use lib.ListN.{length, getD, length-append}
-use Rattle.lists.specs.Table.{edit, putWhere}
+use Rattle.lists.specs.Table.{edit}
 
 module _ {A : Type 0} where
   -- a table with one more place, as yet empty, holds what it held

@@ -1,5 +1,5 @@
 -- Tests that answer a Bool: conjunction, disjunction, and a test of every number below a bound.
-use mathlib.Core.Bool.{Bool, true, false, cond}
+use mathlib.Core.Bool.{Bool, true, false}
 use mathlib.Core.Option.{Option, none, some}
 use Prim.Native.Nat.{ℕ, zero, suc}
 use lib.Dec.{eqb}

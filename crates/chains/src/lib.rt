@@ -1,0 +1,1 @@
+// Chains and rings of a partial map: definitions and laws only (see specs/).
