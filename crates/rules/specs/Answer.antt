@@ -1,0 +1,47 @@
+-- What a step is answered: number, value, next state and task to run, for accepted, refused and unsound.
+use mathlib.Core.Bool.{cond}
+use mathlib.Core.Option.{Option, none, some}
+use Prim.Native.Nat.{ℕ}
+use Rattle.rules.specs.State.{State}
+use Rattle.rules.specs.Step.{Step}
+use Rattle.rules.specs.Effect.{effect}
+use Rattle.rules.specs.Settle.{finish}
+use Rattle.rules.specs.Refusal.{Row, refusals, firstRow}
+use Rattle.rules.specs.Sound.{soundb}
+
+pub record Answer : Type 0 where
+  pub state : State
+  pub number : ℕ
+  pub value : ℕ
+  -- the task to run
+  pub run : Option ℕ
+
+-- "Every number but 0 and 1 leaves the state unchanged. The task to run is then the running one as it stands"
+abbrev pub refused : State → ℕ → ℕ → Answer
+refused s k v = record { state = s; number = k; value = v; run = s .running }
+
+abbrev pub accepted : State → ℕ → ℕ → Answer
+accepted s k v = record { state = s; number = k; value = v; run = s .running }
+
+-- the step on a sound state, by the first row of its refusals that applies
+unfoldable pub decide : State → Step → Option Row → Answer
+decide s x (some r) = refused s (r .number) (r .value)
+decide s x none = accepted (finish s (effect s x)) ((effect s x) .number) ((effect s x) .value)
+
+unfoldable pub stepSound : State → Step → Answer
+stepSound s x = decide s x (firstRow (refusals s x))
+
+-- "where the state handed in isn't sound, it is none, with 14, 15 and 8 alike"
+unfoldable pub standing : State → Option ℕ
+standing s = cond (soundb s) (s .running) none
+
+abbrev pub stopped : State → ℕ → Answer
+stopped s k = record { state = s; number = k; value = 0; run = standing s }
+
+-- 15: "the state handed in isn't sound"
+unfoldable pub step : State → Step → Answer
+step s x = cond (soundb s) (stepSound s x) (stopped s 15)
+
+-- 14: "line not of the form below"
+unfoldable pub malformed : State → Answer
+malformed s = stopped s 14

@@ -1,0 +1,12 @@
+pub mod Sizes
+pub mod Tables
+pub mod Levels
+pub mod State
+pub mod Step
+pub mod Effect
+pub mod Settle
+pub mod Refusal
+pub mod Sound
+pub mod Answer
+pub mod Log
+pub mod Invariant

@@ -1,0 +1,99 @@
+-- "Numbers that come back": for each step the rows of the table that concern it, in the table's order; the first that applies is given.
+use mathlib.Core.List.{List, [], _∷_}
+use mathlib.Core.Bool.{Bool, false, cond, not}
+use mathlib.Core.Option.{Option, none, some}
+use Prim.Native.Nat.{ℕ}
+use lib.Dec.{ltb, leb, eqb}
+use Rattle.lists.specs.Test.{_and_, _or_, someb, holds}
+use Rattle.rules.specs.Sizes.{maxTasks, maxMutexes, maxSemaphores, levels, kinds, maxHold, maxTicks, forever}
+use Rattle.rules.specs.Tables.{semOf, tasks, mutexes, semaphores, ownerOf, countOf, maximumOf}
+use Rattle.rules.specs.Levels.{linksOf, closesRing, bestWaiter}
+use Rattle.rules.specs.State.{State}
+use Rattle.rules.specs.Step.{Step, task, mutex, sem, start, lock, unlock, pend, post, flush, sleep, yield, hold, free, tick, level, outcome}
+
+-- a refusal's number, when it is given, and the value beside it
+pub record Row : Type 0 where
+  pub number : ℕ
+  pub when : Bool
+  pub value : ℕ
+
+infix 20 _when_
+abbrev pub _when_ : ℕ → Bool → Row
+k when b = record { number = k; when = b; value = 0 }
+
+-- "a waiting time is 0, 1 to 2147483647 ticks, or 4294967295 (forever)"
+abbrev pub isWaitingTime : ℕ → Bool
+isWaitingTime t = leb t maxTicks or eqb t forever
+
+-- "sleep t: t is 1 to 2147483647"
+abbrev pub isSleepTime : ℕ → Bool
+isSleepTime t = ltb 0 t and leb t maxTicks
+
+abbrev pub held : State → Bool
+held s = ltb 0 (s .hold)
+
+-- a step that needs a caller, with none running
+abbrev pub noCaller : State → Bool
+noCaller s = not (someb (s .running))
+
+-- the caller's test, passed by nobody where none runs
+unfoldable pub ofCaller : Option ℕ → (ℕ → Bool) → Bool
+ofCaller none p = false
+ofCaller (some r) p = p r
+
+unfoldable pub linksFor : State → ℕ → Option ℕ → ℕ
+linksFor s m none = 0
+linksFor s m (some r) = linksOf (s .tables) r m
+
+-- a lock of m meets an owner; a pend of k meets no credit: the step would wait
+abbrev pub taken : State → ℕ → Bool
+taken s m = someb (ownerOf (s .tables) m)
+
+abbrev pub noCredit : State → ℕ → Bool
+noCredit s k = eqb (countOf (s .tables) k) 0
+
+abbrev pub callerOwns : State → ℕ → Bool
+callerOwns s m = ofCaller (s .running) (holds (ownerOf (s .tables) m))
+
+-- "lock whose wait would close a ring", with its links
+abbrev pub ringRow : State → ℕ → Row
+ringRow s m = record { number = 12; when = taken s m and ofCaller (s .running) (λ r. closesRing (s .tables) r m); value = linksFor s m (s .running) }
+
+abbrev pub noSuchMutex : State → ℕ → Bool
+noSuchMutex s m = leb (mutexes (s .tables)) m
+
+abbrev pub noSuchSem : State → ℕ → Bool
+noSuchSem s k = leb (semaphores (s .tables)) k
+
+abbrev pub noSuchTask : State → ℕ → Bool
+noSuchTask s i = leb (tasks (s .tables)) i
+
+unfoldable pub refusals : State → Step → List Row
+refusals s (task p) = (4 when s .started) ∷ (7 when leb levels p) ∷ (8 when leb maxTasks (tasks (s .tables))) ∷ []
+refusals s (mutex k) = (4 when s .started) ∷ (7 when leb kinds k) ∷ (8 when leb maxMutexes (mutexes (s .tables))) ∷ []
+refusals s (sem count max) = (4 when s .started) ∷ (7 when eqb max 0 or ltb max count) ∷ (8 when leb maxSemaphores (semaphores (s .tables))) ∷ []
+refusals s start = (4 when s .started) ∷ []
+refusals s (lock m t) = (4 when not (s .started)) ∷ (5 when noCaller s) ∷ (6 when noSuchMutex s m) ∷ (7 when not (isWaitingTime t)) ∷ (9 when callerOwns s m)
+    ∷ (3 when taken s m and eqb t 0) ∷ (11 when taken s m and held s) ∷ ringRow s m ∷ []
+refusals s (unlock m) = (4 when not (s .started)) ∷ (5 when noCaller s) ∷ (6 when noSuchMutex s m) ∷ (10 when not (callerOwns s m)) ∷ []
+refusals s (pend k t) = (4 when not (s .started)) ∷ (5 when noCaller s) ∷ (6 when noSuchSem s k) ∷ (7 when not (isWaitingTime t))
+    ∷ (3 when noCredit s k and eqb t 0) ∷ (11 when noCredit s k and held s) ∷ []
+refusals s (post k) = (4 when not (s .started)) ∷ (6 when noSuchSem s k)
+    ∷ (2 when not (someb (bestWaiter (s .tables) (semOf k))) and eqb (countOf (s .tables) k) (maximumOf (s .tables) k)) ∷ []
+refusals s (flush k) = (4 when not (s .started)) ∷ (6 when noSuchSem s k) ∷ []
+refusals s (sleep t) = (4 when not (s .started)) ∷ (5 when noCaller s) ∷ (7 when not (isSleepTime t)) ∷ (11 when held s) ∷ []
+refusals s yield = (4 when not (s .started)) ∷ (5 when noCaller s) ∷ (11 when held s) ∷ []
+refusals s hold = (4 when not (s .started)) ∷ (5 when noCaller s) ∷ (13 when leb maxHold (s .hold)) ∷ []
+refusals s free = (4 when not (s .started)) ∷ (5 when noCaller s) ∷ (13 when eqb (s .hold) 0) ∷ []
+refusals s tick = (4 when not (s .started)) ∷ []
+refusals s (level i) = (6 when noSuchTask s i) ∷ []
+refusals s (outcome i) = (6 when noSuchTask s i) ∷ []
+
+-- the first row that applies
+unfoldable pub firstRow : List Row → Option Row
+firstRow [] = none
+firstRow (r ∷ rs) = cond (r .when) (some r) (firstRow rs)
+
+-- "Order where several apply: 14, 15, 4, 5, 6, 7, 8 (full table), 9, 10, 3, 11, 12; then 2 and 13"; 14 and 15 come before any row
+abbrev pub tableOrder : List ℕ
+tableOrder = 4 ∷ 5 ∷ 6 ∷ 7 ∷ 8 ∷ 9 ∷ 10 ∷ 3 ∷ 11 ∷ 12 ∷ 2 ∷ 13 ∷ []

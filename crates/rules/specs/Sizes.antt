@@ -1,0 +1,52 @@
+-- Sizes and ranges, each named once. No law depends on their values but where it says so.
+use Prim.Native.Nat.{ℕ}
+
+-- "Tasks 0 to 15, mutexes 0 to 7, semaphores 0 to 7"
+abbrev pub maxTasks : ℕ
+maxTasks = 16
+
+abbrev pub maxMutexes : ℕ
+maxMutexes = 8
+
+abbrev pub maxSemaphores : ℕ
+maxSemaphores = 8
+
+-- "Priority 0 is the most urgent, 31 the least": the number of levels
+abbrev pub levels : ℕ
+levels = 32
+
+-- "A mutex is plain (kind 0) or inheriting (kind 1)": the number of kinds
+abbrev pub kinds : ℕ
+kinds = 2
+
+-- the kind that lends its waiters' levels to the owner
+abbrev pub inheriting : ℕ
+inheriting = 1
+
+-- "The clock counts ticks in 32 bits and goes from 4294967295 to 0": the number of 32-bit numbers
+abbrev pub wordSize : ℕ
+wordSize = 4294967296
+
+-- "Hold depth is 0 to 255"
+abbrev pub maxHold : ℕ
+maxHold = 255
+
+-- "A waiting time is 0 (don't wait), 1 to 2147483647 ticks, or 4294967295 (forever)"
+abbrev pub maxTicks : ℕ
+maxTicks = 2147483647
+
+abbrev pub forever : ℕ
+forever = 4294967295
+
+-- the outcomes of a wait: granted (or slept), still waiting, timed out, flushed
+abbrev pub granted : ℕ
+granted = 0
+
+abbrev pub pending : ℕ
+pending = 1
+
+abbrev pub timedOut : ℕ
+timedOut = 20
+
+abbrev pub flushed : ℕ
+flushed = 21

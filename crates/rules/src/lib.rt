@@ -1,0 +1,1 @@
+// The rules of the kernel: definitions and theorems only (see specs/).
