@@ -10,3 +10,6 @@ pub mod Sound
 pub mod Answer
 pub mod Log
 pub mod Invariant
+pub mod LevelLaws
+pub mod FactsLaws
+pub mod SettleLaws

@@ -1,0 +1,173 @@
+-- What settling and dispatching establish, whatever the step was, and that equals stay and the displaced go to the head.
+use mathlib.Core.Path.{_≡_, refl, ap, sym, _∙_}
+use mathlib.Core.List.{List, [], _∷_, _++_, append-nil}
+use mathlib.Core.Bool.{Bool, true, false, not}
+use mathlib.Core.Logic.{inl, inr}
+use mathlib.Core.Option.{Option, none, some}
+use Prim.Native.Nat.{ℕ, suc, _+_, _≤_, _<_}
+use native.Mathlib.Omega.{arith}
+use native.Mathlib.Decide.{ℕ-discrete}
+use lib.Dec.{ltb, leb, eqb}
+use borrow.Author.Tests.{ltb-true, ltb-false, lt-ltb, le-ltb, eq-eqb}
+use Rattle.lists.specs.Test.{_and_}
+use Rattle.lists.specs.Count.{occ, member, below, opt}
+use Rattle.lists.specs.Order.{keep, upTo, byId, place, insertTail, insertHead, stable, Asc, before}
+use Rattle.lists.specs.TestLaws.{which, clash, by-test, and-r, true-and, and-false, some-same}
+use Rattle.lists.specs.CountLaws.{eqn-at, eqn-other, occ-append, below-out}
+use Rattle.lists.specs.OrderLaws.{occ-place, asc-first, asc-insertHead, asc-stable, occ-stable, stable-asc, stable-snoc, keep-all, keep-none, keep-append, occ-upTo, occ-byId, occ-split, asc-change}
+use Rattle.chains.specs.Chain.{on}
+use Rattle.rules.specs.Sizes.{wordSize, maxHold}
+use Rattle.rules.specs.Tables.{tasks}
+use Rattle.rules.specs.State.{State, placed, levelOf}
+use Rattle.rules.specs.Effect.{Effect}
+use Rattle.rules.specs.Settle.{settledReady, settle, meet, dispatch, finish}
+use Rattle.rules.specs.Invariant.{Facts, Places, Runs, Urgent, HoldRuns, SetUp, Inv}
+
+-- the settled order is ascending and holds who was ready and who became so
+pub asc-settled : (n : ℕ) (old new : ℕ → ℕ) (ready woken : List ℕ) → Asc new (settledReady n old new ready woken)
+unfolding settledReady
+asc-settled n old new ready woken = asc-stable new _
+
+pub occ-settled : (n : ℕ) (old new : ℕ → ℕ) (ready woken : List ℕ) (i : ℕ) → occ i ready ≤ below i n → occ i woken ≤ below i n
+    → occ i (settledReady n old new ready woken) ≡ occ i woken + occ i ready
+unfolding settledReady
+occ-settled n old new ready woken i h k =
+    let same : ℕ → Bool = λ j. eqb (new j) (old j) in
+    let moved = byId n (λ j. not (same j) and member j ready) in
+    let came = byId n (λ j. member j woken) in
+    omega (
+      arith,
+      occ-stable new i (keep same ready ++ (moved ++ came)),
+      occ-append i (keep same ready) (moved ++ came),
+      occ-append i moved came,
+      occ-split i n same ready h,
+      occ-byId i n woken k,
+    )
+
+-- where no ready task's level changed, only those that became ready move
+settled-unchanged : (n : ℕ) (old new : ℕ → ℕ) (ready woken : List ℕ) → ((i : ℕ) → 1 ≤ occ i ready → new i ≡ old i)
+    → settledReady n old new ready woken ≡ stable new (ready ++ byId n (λ i. member i woken))
+unfolding settledReady byId _and_
+settled-unchanged n old new ready woken h =
+    rw (
+      keep-all same ready (λ y m. eq-eqb (new y) (old y) (h y m)),
+      keep-none (λ i. not (same i) and member i ready) (upTo n) (λ y m. nobody y),
+    ) refl
+  where
+    same : ℕ → Bool
+    same i = eqb (new i) (old i)
+
+    nobody : (y : ℕ) → not (same y) and member y ready ≡ false
+    nobody y = elim (which (member y ready)) [
+      | inl e ↦ rw (eq-eqb (new y) (old y) (h y (ltb-true 0 (occ y ready) e))) refl
+      | inr e ↦ rw e (off (same y))
+    ]
+      where
+        off : (b : Bool) → not b and false ≡ false
+        off true = refl
+        off false = refl
+
+pub settled-same : (n : ℕ) (old new : ℕ → ℕ) (ready : List ℕ) → ((i : ℕ) → 1 ≤ occ i ready → new i ≡ old i) → Asc old ready
+    → settledReady n old new ready [] ≡ ready
+unfolding byId occ
+settled-same n old new ready h a =
+    settled-unchanged n old new ready [] h
+    ∙ rw (keep-none (λ i. member i []) (upTo n) (λ y m. refl), append-nil ready) (stable-asc new ready (asc-change old new ready (λ y m. sym (h y m)) a))
+
+-- the task made last goes to the tail of its level
+pub settled-made : (n : ℕ) (old new : ℕ → ℕ) (ready : List ℕ) → ((i : ℕ) → 1 ≤ occ i ready → new i ≡ old i) → Asc old ready
+    → settledReady (suc n) old new ready (n ∷ []) ≡ insertTail new n ready
+unfolding byId upTo keep occ
+settled-made n old new ready h a =
+    settled-unchanged (suc n) old new ready (n ∷ []) h
+    ∙ rw (last, stable-snoc new ready n) (ap (insertTail new n) (stable-asc new ready (asc-change old new ready (λ y m. sym (h y m)) a)))
+  where
+    p : ℕ → Bool
+    p i = member i (n ∷ [])
+
+    last : keep p (upTo n ++ (n ∷ [])) ≡ n ∷ []
+    last = keep-append p (upTo n) (n ∷ [])
+        ∙ rw (
+          keep-none p (upTo n) (λ y m. le-ltb 0 (occ y (n ∷ [])) (omega (arith, eqn-other n y (λ e. omega (arith, occ-upTo y n, below-out y n (omega arith)))))),
+          lt-ltb 0 (occ n (n ∷ [])) (omega (arith, eqn-at n n refl)),
+        ) refl
+
+-- "Equal levels never displace"
+pub equal-stays : (s : State) (r x : ℕ) (l : List ℕ) → levelOf s r ≤ levelOf s x → meet s (some r) (x ∷ l) ≡ placed s (some r) (x ∷ l)
+unfolding meet _and_
+equal-stays s r x l h = rw (off (eqb (s .hold) 0)) refl
+  where
+    off : (b : Bool) → b and ltb (levelOf s x) (levelOf s r) ≡ false
+    off true = le-ltb (levelOf s x) (levelOf s r) h
+    off false = refl
+
+-- "the displaced task goes to the head of its level": who stands before it is more urgent
+pub displaced-to-head : (s : State) (r x : ℕ) (l : List ℕ) → s .hold ≡ 0 → levelOf s x < levelOf s r
+    → meet s (some r) (x ∷ l) ≡ placed s (some x) (place (λ y. leb (levelOf s r) (levelOf s y)) r l)
+unfolding meet insertHead
+displaced-to-head s r x l e h = rw (true-and _ _ (eq-eqb (s .hold) 0 e) (lt-ltb (levelOf s x) (levelOf s r) h)) refl
+
+-- a started state with r running and l ready
+module _ (s : State) (F : Facts (s .tables)) (clock : s .clock < wordSize) (depth : s .hold ≤ maxHold) (on : s .started ≡ true) where
+  started-inv : (r : Option ℕ) (l : List ℕ) → Places (placed s r l) [] → Asc (levelOf s) l → Runs (placed s r l) → HoldRuns (placed s r l) → Urgent (placed s r l) → Inv (placed s r l)
+  started-inv r l P a R H U = record {
+    facts = F;
+    clock-in = clock;
+    hold-in = depth;
+    places = P;
+    ascending = a;
+    when-started = λ e. record { runs = R; hold-runs = H; urgent = U };
+    in-set-up = λ e. absurd (clash on e);
+  }
+
+  meet-inv : (r : Option ℕ) (l : List ℕ) → Places (placed s r l) [] → Asc (levelOf s) l → HoldRuns (placed s r l) → Inv (meet s r l)
+  unfolding meet occ insertHead
+  meet-inv r [] P a H = started-inv r [] P a (λ i m. absurd (omega arith)) H (λ e i r m q. absurd (omega arith))
+  meet-inv none (x ∷ l) P a H = started-inv (some x) l (λ i. omega (arith, P i)) (a .1) (λ i m. (x, refl)) (λ h. (x, refl))
+      (λ e i r m q. omega (arith, a .0 i m, ap (levelOf s) (some-same q)))
+  meet-inv (some r) (x ∷ l) P a H = by-test Inv (eqb (s .hold) 0 and ltb (levelOf s x) (levelOf s r))
+      (λ t. started-inv (some x) (place (λ y. leb (levelOf s r) (levelOf s y)) r l)
+      (λ i. omega (arith, P i, occ-place (λ y. leb (levelOf s r) (levelOf s y)) r i l))
+      (asc-insertHead (levelOf s) r l (a .1)) (λ i m. (x, refl)) (λ h. (x, refl))
+      (λ e i k m q. elim (ℕ-discrete r i) [
+        | yes u ↦ omega (arith, ltb-true (levelOf s x) (levelOf s r) (and-r _ _ t), ap (levelOf s) u, ap (levelOf s) (some-same q))
+        | no u ↦ omega (arith, a .0 i (omega (arith, occ-place (λ y. leb (levelOf s r) (levelOf s y)) r i l, eqn-other r i u)), ap (levelOf s) (some-same q))
+      ]))
+      (λ t. started-inv (some r) (x ∷ l) P a (λ i m. (r, refl)) H
+      (λ e i k m q. omega (arith, ltb-false (levelOf s x) (levelOf s r) (and-false _ _ (eq-eqb (s .hold) 0 e) t), asc-first (levelOf s) x l a i m, ap (levelOf s) (some-same q))))
+
+-- the end of every accepted step
+pub finish-inv : (before : State) (e : Effect) → Facts (e .state .tables) → e .state .clock < wordSize → e .state .hold ≤ maxHold
+    → Places (e .state) (e .woken) → HoldRuns (e .state)
+    → (e .state .started ≡ false → SetUp (settle (levelOf before) (e .state) (e .woken)))
+    → Inv (finish before e)
+unfolding finish dispatch occ
+finish-inv before e F clock depth P H U = by-test Inv (e .state .started)
+    (λ on. meet-inv settled F clock depth on (s .running) order places (asc-settled (tasks (s .tables)) old (levelOf s) (s .ready) (e .woken)) H)
+    (λ off. record {
+      facts = F;
+      clock-in = clock;
+      hold-in = depth;
+      places = places;
+      ascending = asc-settled (tasks (s .tables)) old (levelOf s) (s .ready) (e .woken);
+      when-started = λ on. absurd (clash on off);
+      in-set-up = U;
+    })
+  where
+    s : State
+    s = e .state
+
+    old : ℕ → ℕ
+    old = levelOf before
+
+    order : List ℕ
+    order = settledReady (tasks (s .tables)) old (levelOf s) (s .ready) (e .woken)
+
+    settled : State
+    settled = settle old s (e .woken)
+
+    places : (i : ℕ) → occ i [] + (occ i order + (occ i (s .tables .waiting) + occ i (opt (s .running)))) ≡ below i (tasks (s .tables))
+    places i = omega (arith, P i, nothing, occ-settled (tasks (s .tables)) old (levelOf s) (s .ready) (e .woken) i (omega (arith, P i)) (omega (arith, P i)))
+      where
+        nothing : occ i [] ≡ 0
+        nothing = refl
