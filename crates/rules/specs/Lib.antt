@@ -13,3 +13,5 @@ pub mod Invariant
 pub mod LevelLaws
 pub mod FactsLaws
 pub mod SettleLaws
+pub mod WaiterLaws
+pub mod StepLaws

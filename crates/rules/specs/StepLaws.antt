@@ -1,0 +1,423 @@
+-- Every accepted step keeps the invariant; a refused one changes nothing.
+use mathlib.Core.Path.{_≡_, refl, ap, sym, _∙_, subst}
+use mathlib.Core.List.{List, [], _∷_}
+use mathlib.Core.Bool.{Bool, true, false, not}
+use mathlib.Core.Logic.{inl, inr}
+use mathlib.Core.Option.{Option, none, some}
+use Prim.Native.Nat.{ℕ, suc, _+_, _-_, _%_, _≤_, _<_}
+use native.Mathlib.Omega.{arith}
+use lib.Dec.{ltb, eqb}
+use lib.ListN.{List·getD-append}
+use borrow.Author.Tests.{ltb-true, ltb-false, leb-true, leb-false, eqb-true, eqb-false, not-false, eq-eqb, ne-eqb}
+use Rattle.lists.specs.Test.{_and_, someb}
+use Rattle.lists.specs.Count.{occ, below, opt}
+use Rattle.lists.specs.Order.{keep, insertTail, Ties, inside}
+use Rattle.lists.specs.TestLaws.{which, clash, by-test, and-l, and-r, and-false, or-true, or-none, none-some, some-true}
+use Rattle.lists.specs.CountLaws.{occ-append, occ-opt, below-out, in-below, below-le, below-suc}
+use Rattle.lists.specs.OrderLaws.{ties-insertTail, asc-change, ties-change}
+use Rattle.lists.specs.TableLaws.{snoc-default, length-snoc}
+use Rattle.chains.specs.Chain.{end, link, on}
+use Rattle.rules.specs.Sizes.{maxTasks, maxMutexes, maxSemaphores, levels, kinds, wordSize, maxHold, maxTicks, forever, granted, flushed}
+use Rattle.rules.specs.Tables.{Awaited, mutexOf, semOf, time, Wait, Tables, tasks, mutexes, semaphores, priorityOf, outcomeOf, waitOf, ownerOf, countOf, maximumOf}
+use Rattle.rules.specs.Levels.{mutexAwaited, andThen, next, levelIn, linksOf, closesRing, awaits, bestWaiter}
+use Rattle.rules.specs.State.{State, fresh, withTables, withStarted, withClock, withHold, levelOf}
+use Rattle.rules.specs.Step.{Step, task, mutex, sem, start, lock, unlock, pend, post, flush, sleep, yield, hold, free, tick, level, outcome}
+use Rattle.rules.specs.Effect.{Effect, done, addTask, addMutex, addSem, give, setCount, endWaits, ended, ticksOf, waitFor, callerWaits, lockBy, passOn, pendBy, credit, flushOf, isDue, due, outcomeDue, ageAll, tickOf, yieldBy, called, effect}
+use Rattle.rules.specs.Settle.{settledReady, settle, finish}
+use Rattle.rules.specs.Refusal.{Row, isWaitingTime, isSleepTime, held, ofCaller, taken, noCredit, noSuchMutex, noSuchSem, refusals, firstRow}
+use Rattle.rules.specs.Sound.{waitCount}
+use Rattle.rules.specs.Answer.{decide, stepSound}
+use Rattle.rules.specs.Invariant.{Unavailable, Left, Outcome, Facts, HoldRuns, SetUp, Started, Inv}
+use Rattle.rules.specs.FactsLaws.{facts-addTask, facts-addMutex, facts-addSem, facts-give, facts-free, facts-begin, wait-ended, facts-end, facts-count, facts-age}
+use Rattle.rules.specs.SettleLaws.{settled-same, settled-made, finish-inv}
+use Rattle.rules.specs.WaiterLaws.{wait-none, awaits-waits, mutex-awaits, sem-blocked, not-due, outcome-due, level-alone, wait-in, best-waits, nobody-best, places-end}
+
+-- a row that does not apply, and those after it
+pub passed : (r : Row) (rs : List Row) → firstRow (r ∷ rs) ≡ none → (r .when ≡ false) × (firstRow rs ≡ none)
+unfolding firstRow
+passed r rs e = elim (which (r .when)) [ inl q ↦ none-some (rw q at e) refl | inr q ↦ (q, rw q at e) ]
+
+-- the ticks left of a wait that may begin; this depends on forever being no number of ticks
+left-mutex : (m t : ℕ) → isWaitingTime t ≡ true → eqb t 0 ≡ false → Left (mutexOf m) (ticksOf t)
+unfolding ticksOf
+left-mutex m t e f = elim (which (eqb t forever)) [
+  | inl q ↦ rw q tt
+  | inr q ↦ rw q (omega (arith, eqb-false t 0 f), elim (or-true _ _ e) [ inl u ↦ leb-true t maxTicks u | inr u ↦ absurd (clash u q) ])
+]
+
+left-sem : (k t : ℕ) → isWaitingTime t ≡ true → eqb t 0 ≡ false → Left (semOf k) (ticksOf t)
+unfolding ticksOf
+left-sem k t e f = left-mutex k t e f
+
+left-sleep : (t : ℕ) → isSleepTime t ≡ true → Left time (ticksOf t)
+unfolding ticksOf
+left-sleep t e =
+    let low = ltb-true 0 t (and-l _ _ e) in
+    let high = leb-true t maxTicks (and-r _ _ e) in
+    rw (ne-eqb t forever (λ q. omega arith)) (low, high)
+
+-- a sleep is for no mutex
+sleep-no-mutex : {A : Type 0} {m : ℕ} → time ≡ mutexOf m → A
+sleep-no-mutex q = absurd (let z : _≡_ {A = ℕ} 0 1 = cc in omega arith)
+
+module _ (s : State) (I : Inv s) where
+  -- the caller of a step
+  module _ (r : ℕ) (run : s .running ≡ some r) where
+    pub caller-in : r < tasks (s .tables)
+    unfolding occ
+    caller-in = in-below r (tasks (s .tables)) (omega (arith, I .places r, occ-opt (s .running) r run))
+
+    pub caller-idle : waitOf (s .tables) r ≡ none
+    unfolding occ
+    caller-idle = wait-none (waitOf (s .tables) r) (omega (arith, I .places r, occ-opt (s .running) r run, I .facts .waiting r, below-le r (tasks (s .tables))))
+
+  -- after start nothing is asked of set-up
+  no-set-up : {A : Type 0} → not (s .started) ≡ false → s .started ≡ false → A
+  no-set-up e f = absurd (clash (not-false (s .started) e) f)
+
+  -- what a step called by nobody or somebody gives
+  called-by : (P : Effect → Type 0) (o : Option ℕ) (f : ℕ → Effect) → not (someb o) ≡ false → ((r : ℕ) → o ≡ some r → P (f r)) → P (called s o f)
+  unfolding called someb
+  called-by P none f e h = absurd (clash refl e)
+  called-by P (some r) f e h = h r refl
+
+  abbrev Keeps : Effect → Type 0
+  Keeps e = Inv (finish s e)
+
+  -- a step that changes nothing
+  idle-inv : (v : ℕ) → Inv (finish s (done s [] v))
+  idle-inv v = finish-inv s (done s [] v) (I .facts) (I .clock-in) (I .hold-in) (I .places) hold-runs set-up
+    where
+      hold-runs : HoldRuns s
+      hold-runs h = elim (which (s .started)) [ inl e ↦ I .when-started e .hold-runs h | inr e ↦ absurd (omega (arith, I .in-set-up e .hold-0)) ]
+
+      set-up : s .started ≡ false → SetUp (settle (levelOf s) s [])
+      set-up e = let U = I .in-set-up e in record {
+        clock-0 = U .clock-0;
+        hold-0 = U .hold-0;
+        idle = U .idle;
+        nobody-waits = U .nobody-waits;
+        nothing-owned = U .nothing-owned;
+        outcomes-0 = U .outcomes-0;
+        by-id = subst (Ties (levelOf s)) (sym (settled-same (tasks (s .tables)) (levelOf s) (levelOf s) (s .ready) (λ i m. refl) (I .ascending))) (U .by-id);
+      }
+
+  -- creation, in set-up, where a level is the own priority
+  module _ (off : s .started ≡ false) where
+    U : SetUp s
+    U = I .in-set-up off
+
+    -- nobody waits, so nobody lends
+    alone : (t : Tables) → Facts t → ((i : ℕ) → occ i (t .waiting) ≡ 0) → (i : ℕ) → i < tasks t → levelIn t i ≡ priorityOf t i
+    alone t F h i k = level-alone t F (λ j. wait-none (waitOf t j) (sym (F .waiting j) ∙ h j)) i k
+
+    ready-in : (i : ℕ) → 1 ≤ occ i (s .ready) → i < tasks (s .tables)
+    ready-in i m = in-below i (tasks (s .tables)) (omega (arith, I .places i))
+
+    ready-alone : (t : Tables) → Facts t → ((i : ℕ) → occ i (t .waiting) ≡ 0) → tasks (s .tables) ≤ tasks t
+        → ((i : ℕ) → i < tasks (s .tables) → priorityOf t i ≡ priorityOf (s .tables) i) → (i : ℕ) → 1 ≤ occ i (s .ready) → levelIn t i ≡ levelOf s i
+    ready-alone t F h le same i m = let k = ready-in i m in
+        alone t F h i (omega arith) ∙ (same i k ∙ sym (alone (s .tables) (I .facts) (U .nobody-waits) i k))
+
+    -- a creation that makes no task
+    made-inv : (t : Tables) (v : ℕ) → Facts t → tasks t ≡ tasks (s .tables) → t .waiting ≡ s .tables .waiting → ((m : ℕ) → ownerOf t m ≡ none)
+        → ((i : ℕ) → outcomeOf t i ≡ granted) → ((i : ℕ) → priorityOf t i ≡ priorityOf (s .tables) i) → Keeps (done (withTables s t) [] v)
+    made-inv t v F n w o c p = finish-inv s (done (withTables s t) [] v) F (I .clock-in) (I .hold-in)
+        (λ i. omega (arith, I .places i, ap (occ i) w, ap (below i) n)) (λ h. absurd (omega (arith, U .hold-0)))
+        (λ e. record {
+          clock-0 = U .clock-0;
+          hold-0 = U .hold-0;
+          idle = U .idle;
+          nobody-waits = silent;
+          nothing-owned = o;
+          outcomes-0 = c;
+          by-id = subst (Ties (levelIn t)) (sym (settled-same (tasks t) (levelOf s) (levelIn t) (s .ready) same (I .ascending)))
+              (ties-change (levelOf s) (levelIn t) (s .ready) (λ y m. sym (same y m)) (U .by-id));
+        })
+      where
+        silent : (i : ℕ) → occ i (t .waiting) ≡ 0
+        silent i = ap (occ i) w ∙ U .nobody-waits i
+
+        same : (i : ℕ) → 1 ≤ occ i (s .ready) → levelIn t i ≡ levelOf s i
+        same = ready-alone t F silent (omega arith) (λ i h. p i)
+
+    task-inv : (p v : ℕ) → p < levels → tasks (s .tables) < maxTasks → Keeps (done (withTables s (addTask (s .tables) p)) (tasks (s .tables) ∷ []) v)
+    unfolding occ
+    task-inv p v low room = finish-inv s (done (withTables s t) (n ∷ []) v) F (I .clock-in) (I .hold-in)
+        (λ i. omega (arith, I .places i, below-suc i n, ap (below i) more)) (λ h. absurd (omega (arith, U .hold-0)))
+        (λ e. record {
+          clock-0 = U .clock-0;
+          hold-0 = U .hold-0;
+          idle = U .idle;
+          nobody-waits = U .nobody-waits;
+          nothing-owned = U .nothing-owned;
+          outcomes-0 = λ i. snoc-default granted (s .tables .outcomes) i ∙ U .outcomes-0 i;
+          by-id = subst (Ties (levelIn t)) (sym order)
+              (ties-insertTail (levelIn t) n (s .ready) (asc-change (levelOf s) (levelIn t) (s .ready) (λ y m. sym (same y m)) (I .ascending)) ready-in
+              (ties-change (levelOf s) (levelIn t) (s .ready) (λ y m. sym (same y m)) (U .by-id)));
+        })
+      where
+        n : ℕ
+        n = tasks (s .tables)
+
+        t : Tables
+        t = addTask (s .tables) p
+
+        F : Facts t
+        F = facts-addTask (s .tables) p low room (I .facts)
+
+        more : tasks t ≡ suc n
+        more = length-snoc (s .tables .priorities) p
+
+        same : (i : ℕ) → 1 ≤ occ i (s .ready) → levelIn t i ≡ levelOf s i
+        same = ready-alone t F (U .nobody-waits) (omega (arith, more)) (λ i h. List·getD-append (s .tables .priorities) (p ∷ []) 0 i h)
+
+        order : settledReady (tasks t) (levelOf s) (levelIn t) (s .ready) (n ∷ []) ≡ insertTail (levelIn t) n (s .ready)
+        order = ap (λ k. settledReady k (levelOf s) (levelIn t) (s .ready) (n ∷ [])) more ∙ settled-made n (levelOf s) (levelIn t) (s .ready) same (I .ascending)
+
+  -- after start
+  module _ (on : not (s .started) ≡ false) where
+    S : Started s
+    S = I .when-started (not-false (s .started) on)
+
+    -- a step that changes only the tables, no wait among them
+    tables-inv : (t : Tables) → Facts t → tasks t ≡ tasks (s .tables) → t .waiting ≡ s .tables .waiting → Keeps (done (withTables s t) [] 0)
+    tables-inv t F n w = finish-inv s (done (withTables s t) [] 0) F (I .clock-in) (I .hold-in)
+        (λ i. omega (arith, I .places i, ap (occ i) w, ap (below i) n)) (S .hold-runs) (no-set-up on)
+
+    -- waits end
+    end-inv : (t : Tables) (p : ℕ → Bool) (c : ℕ) → Facts t → c < wordSize → tasks t ≡ tasks (s .tables) → t .waiting ≡ keep (λ i. not (p i)) (s .tables .waiting)
+        → Keeps (done (withClock (withTables s t) c) (ended (s .tables) p) 0)
+    end-inv t p c F low n w = finish-inv s (done (withClock (withTables s t) c) (ended (s .tables) p) 0) F low (I .hold-in)
+        (places-end s t p n w (I .places)) (S .hold-runs) (no-set-up on)
+
+    -- the caller waits
+    wait-inv : (r : ℕ) (a : Awaited) (t links : ℕ) → s .running ≡ some r → held s ≡ false → Unavailable (s .tables) a → Left a (ticksOf t)
+        → ((m : ℕ) → a ≡ mutexOf m → closesRing (s .tables) r m ≡ false) → Keeps (callerWaits s r a t links)
+    unfolding callerWaits occ
+    wait-inv r a t links run unheld un left clear = finish-inv s (callerWaits s r a t links)
+        (facts-begin (s .tables) r (waitFor a t) (caller-in r run) (caller-idle r run) un left clear (I .facts)) (I .clock-in) (I .hold-in)
+        (λ i. omega (arith, I .places i, occ-append i (s .tables .waiting) (r ∷ []), ap (λ x. occ i (opt x)) run))
+        (λ h. absurd (omega (arith, ltb-false 0 (s .hold) unheld))) (no-set-up on)
+
+    lock-inv : (r m t : ℕ) (o : Option ℕ) → s .running ≡ some r → ownerOf (s .tables) m ≡ o → noSuchMutex s m ≡ false → isWaitingTime t ≡ true
+        → someb o and eqb t 0 ≡ false → someb o and held s ≡ false → someb o and closesRing (s .tables) r m ≡ false → Keeps (lockBy s m t r o)
+    unfolding lockBy someb _and_
+    lock-inv r m t none run e there valid now unheld ring = tables-inv (give (s .tables) m (some r))
+        (facts-give (s .tables) m r (leb-false (mutexes (s .tables)) m there) (caller-in r run) (caller-idle r run) (I .facts)) refl refl
+    lock-inv r m t (some o) run e there valid now unheld ring =
+        wait-inv r (mutexOf m) t (linksOf (s .tables) r m) run unheld (o, e) (left-mutex m t valid now) (λ k q. rw (same q) ring)
+      where
+        same : {k : ℕ} → mutexOf m ≡ mutexOf k → k ≡ m
+        same q = cc
+
+    unlock-inv : (m : ℕ) (o : Option ℕ) → bestWaiter (s .tables) (mutexOf m) ≡ o → noSuchMutex s m ≡ false → Keeps (passOn s m o)
+    unfolding passOn
+    unlock-inv m none e there = tables-inv (give (s .tables) m none)
+        (facts-free (s .tables) m (λ i q. clash (mutex-awaits (waitOf (s .tables) i) m q) (nobody-best (s .tables) (I .facts) (mutexOf m) e i)) (I .facts)) refl refl
+    unlock-inv m (some w) e there =
+        end-inv (give t m (some w)) (eqb w) (s .clock) (facts-give t m w (leb-false (mutexes (s .tables)) m there) inside gone
+        (facts-end (s .tables) (eqb w) (λ i. granted) (λ i q. inl refl) (I .facts))) (I .clock-in) refl refl
+      where
+        t : Tables
+        t = endWaits (s .tables) (eqb w) (λ i. granted)
+
+        inside : w < tasks (s .tables)
+        inside = wait-in (s .tables) (I .facts) w (omega (arith, awaits-waits (waitOf (s .tables) w) (mutexOf m) (best-waits (s .tables) (I .facts) (mutexOf m) w e)))
+
+        gone : waitOf t w ≡ none
+        gone = wait-ended (s .tables) (eqb w) (λ i. granted) w ∙ rw (eq-eqb w w refl) refl
+
+    pend-inv : (r k t : ℕ) → s .running ≡ some r → noSuchSem s k ≡ false → isWaitingTime t ≡ true → noCredit s k and eqb t 0 ≡ false
+        → noCredit s k and held s ≡ false → Keeps (pendBy s k t r)
+    unfolding pendBy
+    pend-inv r k t run there valid now unheld = by-test Keeps (noCredit s k)
+        (λ e. wait-inv r (semOf k) t 0 run (and-false _ _ e unheld) (leb-false (semaphores (s .tables)) k there, eqb-true (countOf (s .tables) k) 0 e)
+        (left-sem k t valid (and-false _ _ e now)) (λ m q. other q))
+        (λ e. tables-inv (setCount (s .tables) k (countOf (s .tables) k - 1)) (facts-count (s .tables) k (countOf (s .tables) k - 1)
+        (λ i. nobody e i) (omega (arith, I .facts .counts k (leb-false (semaphores (s .tables)) k there) .0)) (I .facts)) refl refl)
+      where
+        other : {A : Type 0} {m : ℕ} → semOf k ≡ mutexOf m → A
+        other q = absurd (let z : _≡_ {A = ℕ} 0 1 = cc in omega arith)
+
+        nobody : noCredit s k ≡ false → (i : ℕ) → awaits (s .tables) (semOf k) i ≡ false
+        nobody e i = elim (which (awaits (s .tables) (semOf k) i)) [
+          | inl q ↦ absurd (eqb-false (countOf (s .tables) k) 0 e (sem-blocked (s .tables) k (waitOf (s .tables) i) (I .facts .blocked i) q))
+          | inr q ↦ q
+        ]
+
+    post-inv : (k : ℕ) (o : Option ℕ) → bestWaiter (s .tables) (semOf k) ≡ o → noSuchSem s k ≡ false
+        → not (someb o) and eqb (countOf (s .tables) k) (maximumOf (s .tables) k) ≡ false → Keeps (credit s k o)
+    unfolding credit someb _and_
+    post-inv k none e there room = tables-inv (setCount (s .tables) k (countOf (s .tables) k + 1)) (facts-count (s .tables) k (countOf (s .tables) k + 1)
+        (nobody-best (s .tables) (I .facts) (semOf k) e)
+        (omega (arith, I .facts .counts k (leb-false (semaphores (s .tables)) k there) .0, eqb-false (countOf (s .tables) k) (maximumOf (s .tables) k) room)) (I .facts)) refl refl
+    post-inv k (some w) e there room = end-inv (endWaits (s .tables) (eqb w) (λ i. granted)) (eqb w) (s .clock)
+        (facts-end (s .tables) (eqb w) (λ i. granted) (λ i q. inl refl) (I .facts)) (I .clock-in) refl refl
+
+    flush-inv : (k : ℕ) → Keeps (flushOf s k)
+    unfolding flushOf
+    flush-inv k = end-inv (endWaits (s .tables) (awaits (s .tables) (semOf k)) (λ i. flushed)) (awaits (s .tables) (semOf k)) (s .clock)
+        (facts-end (s .tables) (awaits (s .tables) (semOf k)) (λ i. flushed) (λ i q. inr (inr refl)) (I .facts)) (I .clock-in) refl refl
+
+    tick-inv : Keeps (tickOf s)
+    unfolding tickOf
+    tick-inv = end-inv (ageAll t) (due (s .tables)) ((s .clock + 1) % wordSize)
+        (facts-age t later (facts-end (s .tables) (due (s .tables)) (λ i. outcomeDue (waitOf (s .tables) i)) (λ i q. expired (waitOf (s .tables) i)) (I .facts))) (omega arith) refl refl
+      where
+        t : Tables
+        t = endWaits (s .tables) (due (s .tables)) (λ i. outcomeDue (waitOf (s .tables) i))
+
+        expired : (w : Option Wait) → Outcome none (outcomeDue w)
+        expired w = outcome-due w
+
+        later : (i : ℕ) → due t i ≡ false
+        later i = rw (wait-ended (s .tables) (due (s .tables)) (λ j. outcomeDue (waitOf (s .tables) j)) i) (by-test (λ (w : Option Wait). isDue w ≡ false) (due (s .tables) i) (λ e. no-wait) (λ e. e))
+          where
+            no-wait : isDue none ≡ false
+            no-wait = not-due
+
+    yield-inv : (r : ℕ) → s .running ≡ some r → held s ≡ false → Keeps (yieldBy s r)
+    unfolding yieldBy occ
+    yield-inv r run unheld = finish-inv s (yieldBy s r) (I .facts) (I .clock-in) (I .hold-in)
+        (λ i. omega (arith, I .places i, ap (λ x. occ i (opt x)) run)) (λ h. absurd (omega (arith, ltb-false 0 (s .hold) unheld))) (no-set-up on)
+
+    depth-inv : (d : ℕ) → d ≤ maxHold → not (someb (s .running)) ≡ false → Keeps (done (withHold s d) [] 0)
+    depth-inv d low run = finish-inv s (done (withHold s d) [] 0) (I .facts) (I .clock-in) low (I .places)
+        (λ h. some-true (s .running) (not-false (someb (s .running)) run)) (no-set-up on)
+
+  start-inv : s .started ≡ false → Keeps (done (withStarted s true) [] 0)
+  start-inv off = finish-inv s (done (withStarted s true) [] 0) (I .facts) (I .clock-in) (I .hold-in) (I .places)
+      (λ h. absurd (omega (arith, I .in-set-up off .hold-0))) (λ e. absurd (clash refl e))
+
+-- the test of the caller who runs
+of-caller : (o : Option ℕ) (p : ℕ → Bool) (r : ℕ) → o ≡ some r → ofCaller o p ≡ p r
+unfolding ofCaller
+of-caller o p r e = rw e refl
+
+module _ (s : State) (I : Inv s) where
+  accept-inv : (x : Step) → firstRow (refusals s x) ≡ none → Inv (finish s (effect s x))
+  unfolding effect refusals
+  accept-inv (task p) e =
+      let a = passed _ _ e in
+      let b = passed _ _ (a .1) in
+      let c = passed _ _ (b .1) in
+      task-inv s I (a .0) p _ (leb-false levels p (b .0)) (leb-false maxTasks (tasks (s .tables)) (c .0))
+  accept-inv (mutex k) e =
+      let a = passed _ _ e in
+      let b = passed _ _ (a .1) in
+      let c = passed _ _ (b .1) in
+      made-inv s I (a .0) (addMutex (s .tables) k) (mutexes (s .tables)) (facts-addMutex (s .tables) k (leb-false kinds k (b .0)) (leb-false maxMutexes (mutexes (s .tables)) (c .0)) (I .facts))
+      refl refl (λ m. snoc-default none (s .tables .owners) m ∙ I .in-set-up (a .0) .nothing-owned m) (I .in-set-up (a .0) .outcomes-0) (λ i. refl)
+  accept-inv (sem count max) e =
+      let a = passed _ _ e in
+      let b = passed _ _ (a .1) in
+      let c = passed _ _ (b .1) in
+      let d = or-none (eqb max 0) (ltb max count) (b .0) in
+      made-inv s I (a .0) (addSem (s .tables) count max) (semaphores (s .tables))
+      (facts-addSem (s .tables) count max (omega (arith, eqb-false max 0 (d .0))) (ltb-false max count (d .1)) (leb-false maxSemaphores (semaphores (s .tables)) (c .0)) (I .facts))
+      refl refl (I .in-set-up (a .0) .nothing-owned) (I .in-set-up (a .0) .outcomes-0) (λ i. refl)
+  accept-inv start e = start-inv s I (passed _ _ e .0)
+  accept-inv (lock m t) e =
+      let a = passed _ _ e in
+      let b = passed _ _ (a .1) in
+      let c = passed _ _ (b .1) in
+      let d = passed _ _ (c .1) in
+      let f = passed _ _ (d .1) in
+      let g = passed _ _ (f .1) in
+      let h = passed _ _ (g .1) in
+      let k = passed _ _ (h .1) in
+      called-by s I (λ y. Inv (finish s y)) (s .running) (λ r. lockBy s m t r (ownerOf (s .tables) m)) (b .0) (λ r run.
+      lock-inv s I (a .0) r m t (ownerOf (s .tables) m) run refl (c .0) (not-false (isWaitingTime t) (d .0)) (g .0) (h .0)
+      (ap (λ z. taken s m and z) (sym (of-caller (s .running) (λ q. closesRing (s .tables) q m) r run)) ∙ k .0))
+  accept-inv (unlock m) e =
+      let a = passed _ _ e in
+      let b = passed _ _ (a .1) in
+      let c = passed _ _ (b .1) in
+      unlock-inv s I (a .0) m (bestWaiter (s .tables) (mutexOf m)) refl (c .0)
+  accept-inv (pend k t) e =
+      let a = passed _ _ e in
+      let b = passed _ _ (a .1) in
+      let c = passed _ _ (b .1) in
+      let d = passed _ _ (c .1) in
+      let g = passed _ _ (d .1) in
+      let h = passed _ _ (g .1) in
+      called-by s I (λ y. Inv (finish s y)) (s .running) (pendBy s k t) (b .0) (λ r run.
+      pend-inv s I (a .0) r k t run (c .0) (not-false (isWaitingTime t) (d .0)) (g .0) (h .0))
+  accept-inv (post k) e =
+      let a = passed _ _ e in
+      let b = passed _ _ (a .1) in
+      let c = passed _ _ (b .1) in
+      post-inv s I (a .0) k (bestWaiter (s .tables) (semOf k)) refl (b .0) (c .0)
+  accept-inv (flush k) e = flush-inv s I (passed _ _ e .0) k
+  accept-inv (sleep t) e =
+      let a = passed _ _ e in
+      let b = passed _ _ (a .1) in
+      let c = passed _ _ (b .1) in
+      let d = passed _ _ (c .1) in
+      called-by s I (λ y. Inv (finish s y)) (s .running) (λ r. callerWaits s r time t 0) (b .0) (λ r run.
+      wait-inv s I (a .0) r time t 0 run (d .0) tt (left-sleep t (not-false (isSleepTime t) (c .0))) (λ m q. sleep-no-mutex q))
+  accept-inv yield e =
+      let a = passed _ _ e in
+      let b = passed _ _ (a .1) in
+      let c = passed _ _ (b .1) in
+      called-by s I (λ y. Inv (finish s y)) (s .running) (yieldBy s) (b .0) (λ r run. yield-inv s I (a .0) r run (c .0))
+  accept-inv hold e =
+      let a = passed _ _ e in
+      let b = passed _ _ (a .1) in
+      let c = passed _ _ (b .1) in
+      depth-inv s I (a .0) (s .hold + 1) (omega (arith, leb-false maxHold (s .hold) (c .0))) (b .0)
+  accept-inv free e =
+      let a = passed _ _ e in
+      let b = passed _ _ (a .1) in
+      depth-inv s I (a .0) (s .hold - 1) (omega (arith, I .hold-in)) (b .0)
+  accept-inv tick e = tick-inv s I (passed _ _ e .0)
+  accept-inv (level i) e = idle-inv s I (levelOf s i)
+  accept-inv (outcome i) e = idle-inv s I (outcomeOf (s .tables) i)
+
+  -- every step keeps a sound state sound
+  pub step-inv : (x : Step) → Inv ((stepSound s x) .state)
+  unfolding stepSound decide
+  step-inv x = go (firstRow (refusals s x)) refl
+    where
+      go : (o : Option Row) → firstRow (refusals s x) ≡ o → Inv ((decide s x o) .state)
+      go none e = accept-inv x e
+      go (some r) e = I
+
+-- the fresh state is sound
+pub fresh-inv : Inv fresh
+unfolding fresh next andThen mutexAwaited occ waitCount
+fresh-inv = record {
+  facts = record {
+    wait-column = refl;
+    outcome-column = refl;
+    kind-column = refl;
+    maximum-column = refl;
+    few-tasks = omega arith;
+    few-mutexes = omega arith;
+    few-semaphores = omega arith;
+    priorities = λ i h. absurd (omega arith);
+    kinds-in = λ m h. absurd (omega arith);
+    waiting = λ i. refl;
+    blocked = λ i. tt;
+    timed = λ i. tt;
+    owners = λ m o e. none-some refl e;
+    ends = λ i. (i ∷ [], link end);
+    counts = λ k h. absurd (omega arith);
+    outcomes = λ i h. absurd (omega arith);
+  };
+  clock-in = omega arith;
+  hold-in = omega arith;
+  places = λ i. omega (arith, below-out i 0 (omega arith));
+  ascending = tt;
+  when-started = λ e. absurd (clash e refl);
+  in-set-up = λ e. record {
+    clock-0 = refl;
+    hold-0 = refl;
+    idle = refl;
+    nobody-waits = λ i. refl;
+    nothing-owned = λ m. refl;
+    outcomes-0 = λ i. refl;
+    by-id = tt;
+  };
+}

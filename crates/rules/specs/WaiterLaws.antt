@@ -1,0 +1,147 @@
+-- Waiters, the best waiter, and where each task stands after waits end.
+use mathlib.Core.Path.{_≡_, refl, ap, sym, _∙_}
+use mathlib.Core.List.{[]}
+use mathlib.Core.Bool.{Bool, true, false, not}
+use mathlib.Core.Logic.{inl, inr}
+use mathlib.Core.Option.{Option, none, some}
+use Prim.Native.Nat.{ℕ, _≤_, _<_}
+use native.Mathlib.Omega.{arith}
+use native.Mathlib.Decide.{decLt}
+use borrow.Author.Tests.{eqb-true, eq-eqb}
+use Rattle.lists.specs.Count.{occ, below}
+use Rattle.lists.specs.Order.{keep, leastFirst}
+use Rattle.lists.specs.TestLaws.{which, clash, none-some, some-same}
+use Rattle.lists.specs.OrderLaws.{occ-kept, occ-dropped, least-some, least-none}
+use Rattle.lists.specs.FirstLaws.{first-is-least}
+use Rattle.chains.specs.Chain.{From, here, on}
+use Rattle.chains.specs.ChainLaws.{from-some}
+use Rattle.chains.specs.LeastLaws.{leading-att}
+use Rattle.rules.specs.Sizes.{levels}
+use Rattle.rules.specs.Tables.{Awaited, mutexOf, semOf, time, Wait, Tables, tasks, priorityOf, waitOf, countOf}
+use Rattle.rules.specs.Levels.{mutexIn, mutexAwaited, andThen, lends, levelIn, sameAwaited, waitIsFor, awaits, waitersOf, bestWaiter}
+use Rattle.rules.specs.State.{State, withTables}
+use Rattle.rules.specs.Effect.{ended, isDue, expiry, outcomeDue}
+use Rattle.rules.specs.Sound.{waitCount}
+use Rattle.rules.specs.Invariant.{Unavailable, Blocked, Outcome, Facts, Places}
+use Rattle.rules.specs.LevelLaws.{wait-out, lends-ended, level-in}
+
+pub wait-none : (w : Option Wait) → waitCount w ≡ 0 → w ≡ none
+unfolding waitCount
+wait-none none h = refl
+wait-none (some w) h = absurd (omega arith)
+
+pub awaited-same : (a b : Awaited) → sameAwaited a b ≡ true → a ≡ b
+unfolding sameAwaited
+awaited-same (mutexOf m) (mutexOf n) e = ap mutexOf (eqb-true m n e)
+awaited-same (mutexOf m) (semOf k) e = absurd (clash e refl)
+awaited-same (mutexOf m) time e = absurd (clash e refl)
+awaited-same (semOf k) (mutexOf m) e = absurd (clash e refl)
+awaited-same (semOf k) (semOf j) e = ap semOf (eqb-true k j e)
+awaited-same (semOf k) time e = absurd (clash e refl)
+awaited-same time (mutexOf m) e = absurd (clash e refl)
+awaited-same time (semOf k) e = absurd (clash e refl)
+awaited-same time time e = refl
+
+awaited-refl : (a : Awaited) → sameAwaited a a ≡ true
+unfolding sameAwaited
+awaited-refl (mutexOf m) = eq-eqb m m refl
+awaited-refl (semOf k) = eq-eqb k k refl
+awaited-refl time = refl
+
+-- who waits for a waits
+pub awaits-waits : (w : Option Wait) (a : Awaited) → waitIsFor w a ≡ true → waitCount w ≡ 1
+unfolding waitIsFor waitCount
+awaits-waits none a e = absurd (clash e refl)
+awaits-waits (some w) a e = refl
+
+pub due-waits : (w : Option Wait) → isDue w ≡ true → waitCount w ≡ 1
+unfolding isDue waitCount
+due-waits none e = absurd (clash e refl)
+due-waits (some w) e = refl
+
+-- who waits for the mutex m waits for what is m
+pub mutex-awaits : (w : Option Wait) (m : ℕ) → mutexAwaited w ≡ some m → waitIsFor w (mutexOf m) ≡ true
+unfolding mutexAwaited waitIsFor mutexIn sameAwaited
+mutex-awaits none m e = none-some refl e
+mutex-awaits (some w) m e = go (w .on) e
+  where
+    go : (a : Awaited) → mutexIn a ≡ some m → sameAwaited a (mutexOf m) ≡ true
+    go (mutexOf n) q = eq-eqb n m (some-same q)
+    go (semOf k) q = none-some refl q
+    go time q = none-some refl q
+
+-- who waits for the semaphore k found it without credit
+pub sem-blocked : (t : Tables) (k : ℕ) (w : Option Wait) → Blocked t w → waitIsFor w (semOf k) ≡ true → countOf t k ≡ 0
+unfolding waitIsFor sameAwaited
+sem-blocked t k none b e = absurd (clash e refl)
+sem-blocked t k (some w) b e = go (w .on) b e
+  where
+    go : (a : Awaited) → Unavailable t a → sameAwaited a (semOf k) ≡ true → countOf t k ≡ 0
+    go (mutexOf m) u q = absurd (clash q refl)
+    go (semOf j) u q = ap (countOf t) (sym (eqb-true j k q)) ∙ u .1
+    go time u q = absurd (clash q refl)
+
+pub not-due : isDue none ≡ false
+unfolding isDue
+not-due = refl
+
+-- what a wait that runs out leaves is no outcome of a waiting task
+pub outcome-due : (w : Option Wait) → Outcome none (outcomeDue w)
+unfolding outcomeDue expiry
+outcome-due none = inl refl
+outcome-due (some w) = go (w .on)
+  where
+    go : (a : Awaited) → Outcome none (expiry a)
+    go (mutexOf m) = inr (inl refl)
+    go (semOf k) = inr (inl refl)
+    go time = inl refl
+
+module _ (t : Tables) (F : Facts t) where
+  -- where nobody waits, a level is the own priority
+  pub level-alone : ((j : ℕ) → waitOf t j ≡ none) → (i : ℕ) → i < tasks t → levelIn t i ≡ priorityOf t i
+  unfolding levelIn lends andThen mutexAwaited
+  level-alone h i k = let a = leading-att (priorityOf t) (lends-ended t F) i k in a .3 ∙ ap (priorityOf t) (stop (a .2) refl)
+    where
+      stop : {o : Option ℕ} {j : ℕ} → From (lends t) o j → {i : ℕ} → o ≡ some i → i ≡ j
+      stop here e = sym (some-same e)
+      stop (on {i = j} g) e = none-some (rw (h j) refl) (from-some g .1)
+
+  pub wait-in : (i : ℕ) → 1 ≤ waitCount (waitOf t i) → i < tasks t
+  unfolding waitCount
+  wait-in i m = elim (decLt i (tasks t)) [ yes h ↦ h | no h ↦ absurd (omega (arith, m, ap waitCount (wait-out t (F .wait-column) i (omega arith)))) ]
+
+  module _ (a : Awaited) where
+    pub waiter-in : (i : ℕ) → awaits t a i ≡ true → occ i (waitersOf t a) ≡ 1
+    unfolding waitersOf
+    waiter-in i e = occ-kept (awaits t a) i (t .waiting) e ∙ (F .waiting i ∙ awaits-waits (waitOf t i) a e)
+
+    pub in-waiter : (i : ℕ) → 1 ≤ occ i (waitersOf t a) → awaits t a i ≡ true
+    unfolding waitersOf
+    in-waiter i h = elim (which (awaits t a i)) [
+      | inl e ↦ e
+      | inr e ↦ absurd (omega (arith, occ-dropped (awaits t a) i (t .waiting) e))
+    ]
+
+    -- the best waiter is the oldest of those of least level
+    pub best-is-least : bestWaiter t a ≡ leastFirst (levelIn t) (waitersOf t a)
+    unfolding bestWaiter
+    best-is-least = first-is-least (levelIn t) levels (waitersOf t a) (λ y m.
+        level-in t F y (wait-in y (omega (arith, awaits-waits (waitOf t y) a (in-waiter y m)))))
+
+    pub best-waits : (w : ℕ) → bestWaiter t a ≡ some w → awaits t a w ≡ true
+    best-waits w e = in-waiter w (least-some (levelIn t) (waitersOf t a) w (sym best-is-least ∙ e))
+
+    pub nobody-best : bestWaiter t a ≡ none → (i : ℕ) → awaits t a i ≡ false
+    nobody-best e i = elim (which (awaits t a i)) [
+      | inl q ↦ absurd (omega (arith, waiter-in i q, least-none (levelIn t) (waitersOf t a) (sym best-is-least ∙ e) i))
+      | inr q ↦ q
+    ]
+
+-- those whose waits end leave the order of waits and are ready
+pub places-end : (s : State) (t : Tables) (p : ℕ → Bool) → tasks t ≡ tasks (s .tables) → t .waiting ≡ keep (λ i. not (p i)) (s .tables .waiting)
+    → Places s [] → Places (withTables s t) (ended (s .tables) p)
+unfolding occ
+places-end s t p e f h i = elim (which (p i)) [
+  | inl q ↦ omega (arith, h i, ap (occ i) f, ap (below i) e, occ-kept p i (s .tables .waiting) q, occ-dropped (λ j. not (p j)) i (s .tables .waiting) (rw q refl))
+  | inr q ↦ omega (arith, h i, ap (occ i) f, ap (below i) e, occ-dropped p i (s .tables .waiting) q, occ-kept (λ j. not (p j)) i (s .tables .waiting) (rw q refl))
+]
