@@ -15,3 +15,5 @@ pub mod FactsLaws
 pub mod SettleLaws
 pub mod WaiterLaws
 pub mod StepLaws
+pub mod SoundLaws
+pub mod Vectors
