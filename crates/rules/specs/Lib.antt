@@ -17,3 +17,5 @@ pub mod WaiterLaws
 pub mod StepLaws
 pub mod SoundLaws
 pub mod Vectors
+pub mod History
+pub mod Demand

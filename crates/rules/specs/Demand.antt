@@ -1,0 +1,85 @@
+-- Demand 3, as a statement: what holds after any list of calls from a fresh state with an accepted start. DemandLaws proves it.
+use mathlib.Core.Path.{_≡_}
+use mathlib.Core.List.{List, [], _∷_}
+use mathlib.Core.Bool.{true}
+use mathlib.Core.Logic.{_⊎_}
+use mathlib.Core.Option.{Option, none, some}
+use Prim.Native.Nat.{ℕ, _≤_, _<_}
+use lib.ListN.{length, getD}
+use Rattle.chains.specs.ChainLaws.{no-ring}
+use Rattle.rules.specs.Sizes.{levels, inheriting}
+use Rattle.rules.specs.State.{State, fresh}
+use Rattle.rules.specs.Step.{level}
+use Rattle.rules.specs.Answer.{Answer}
+use Rattle.rules.specs.Log.{logLine, Call, call}
+use Rattle.rules.specs.History.{Event, Told, tasksMade, ownPriority, begunMutex, told}
+
+-- i waits for a mutex that j owns, mutexes of every kind
+abbrev pub WaitsFor : Told → ℕ → ℕ → Type 0
+WaitsFor h i j = (m : ℕ) × (begunMutex (h .wait i) ≡ some m) × (h .owner m ≡ some j)
+
+-- i waits for an inheriting mutex that j owns
+abbrev pub LendsTo : Told → ℕ → ℕ → Type 0
+LendsTo h i j = (m : ℕ) × (begunMutex (h .wait i) ≡ some m) × (getD (h .kinds) m 0 ≡ inheriting) × (h .owner m ≡ some j)
+
+-- "A task's chain of waits on inheriting mutexes leads to the owner of the inheriting mutex for which it waits, and to all tasks to which
+-- that owner's such chain leads."
+pub data Leads (h : Told) : ℕ → ℕ → Type 0 where
+  to-owner : {i j : ℕ} → LendsTo h i j → Leads h i j
+  through : {i j k : ℕ} → LendsTo h i j → Leads h j k → Leads h i k
+
+-- "Waits form a ring if, in some row of one or more tasks, each waits for a mutex that the next owns, and the last for one that the first
+-- owns, mutexes of every kind counted.": the row x, l, where the last waits for one that y owns
+abbrev pub Row : Told → ℕ → List ℕ → ℕ → Type 0
+Row h x [] y = WaitsFor h x y
+Row h x (z ∷ l) y = WaitsFor h x z × Row h z l y
+
+abbrev pub Ring : Told → ℕ → List ℕ → Type 0
+Ring h x l = Row h x l x
+
+-- "is ready if it neither runs nor waits"
+pub record Ready (h : Told) (i : ℕ) : Type 0 where
+  pub exists : i < tasksMade h
+  pub not-running : h .runs ≡ some i → ⊥
+  pub not-waiting : h .wait i ≡ none
+
+-- v is "the most urgent own priority among itself and all tasks whose chain of waits on inheriting mutexes leads to it"
+pub record MostUrgent (h : Told) (i v : ℕ) : Type 0 where
+  pub own : v ≤ ownPriority h i
+  pub low : (j : ℕ) → j < tasksMade h → Leads h j i → v ≤ ownPriority h j
+  pub one : (v ≡ ownPriority h i) ⊎ ((j : ℕ) × (j < tasksMade h) × Leads h j i × (v ≡ ownPriority h j))
+
+abbrev pub levelCall : ℕ → Option ℕ → Call
+levelCall i room = record { made = level i; room = room }
+
+-- the log line of an answer has room, where one is asked for
+abbrev pub Fits : Option ℕ → Answer → Type 0
+Fits none a = Unit
+Fits (some room) a = length (logLine a) ≤ room
+
+-- what holds where the list of events tells h, and `answer` is what a further call is answered
+pub record Demand (h : Told) (answer : Call → Answer) : Type 0 where
+  -- "After such a list `level` is accepted for it (its log line, where one is asked for, having room), and that value is its level."
+  pub levels : (i : ℕ) → i < tasksMade h → (room : Option ℕ) → Fits room (answer (levelCall i none))
+      → ((answer (levelCall i room)) .number ≡ 0) × MostUrgent h i ((answer (levelCall i room)) .value)
+  -- "no waits form a ring"
+  pub no-ring : (x : ℕ) (l : List ℕ) → Ring h x l → ⊥
+  -- "a task runs whenever one is ready"
+  pub runs : (i : ℕ) → Ready h i → (r : ℕ) × (h .runs ≡ some r)
+  -- "unless scheduling is held, no ready task is more urgent than the running one"
+  pub urgent : h .depth ≡ 0 → (i r : ℕ) → Ready h i → h .runs ≡ some r → (answer (levelCall r none)) .value ≤ (answer (levelCall i none)) .value
+
+-- the events of a list of calls, and the state handed on at its end
+unfoldable pub events : State → List Call → List Event
+events s [] = []
+events s (c ∷ cs) =
+    let a = call s c in
+    record { made = c .made; number = a .number; value = a .value; run = a .run } ∷ events (a .state) cs
+
+unfoldable pub after : State → List Call → State
+after s [] = s
+after s (c ∷ cs) = after ((call s c) .state) cs
+
+-- the theorem: over every list of calls from a fresh state with an accepted start
+abbrev pub Demand-3 : Type 0
+Demand-3 = (cs : List Call) → (told (events fresh cs)) .started ≡ true → Demand (told (events fresh cs)) (call (after fresh cs))

@@ -1,0 +1,150 @@
+-- The words of demand 3, told by the list of events alone: none of them looks at a state, nor is built from the rules' effects.
+use mathlib.Core.List.{List, [], _∷_, _++_}
+use mathlib.Core.Bool.{Bool, true, false, cond, not}
+use mathlib.Core.Option.{Option, none, some}
+use Prim.Native.Nat.{ℕ, _+_, _-_}
+use lib.Dec.{leb, eqb}
+use lib.ListN.{length, getD}
+use Rattle.lists.specs.Test.{_and_}
+use Rattle.lists.specs.Order.{keep, leastFirst}
+use Rattle.chains.specs.Chain.{on}
+use Rattle.chains.specs.Least.{leastLeading}
+use Rattle.rules.specs.Sizes.{kinds, inheriting, forever}
+use Rattle.rules.specs.Tables.{Awaited, mutexOf, semOf, time}
+use Rattle.rules.specs.Levels.{mutexIn, andThen, sameAwaited}
+use Rattle.rules.specs.Step.{Step, task, mutex, sem, start, lock, unlock, pend, post, flush, sleep, yield, hold, free, tick, level, outcome}
+
+-- an event: the step, the answer's number and value, and the task to run
+pub record Event : Type 0 where
+  pub made : Step
+  pub number : ℕ
+  pub value : ℕ
+  pub run : Option ℕ
+
+-- a wait as the list tells it: what for, the time it began with, and the accepted ticks since
+pub record Begun : Type 0 where
+  pub on : Awaited
+  pub time : ℕ
+  pub ticks : ℕ
+
+-- what a list of events tells
+pub record Told : Type 0 where
+  -- "A task's own priority is the one it was made with."
+  pub priorities : List ℕ
+  -- each mutex's kind is the one it was made with
+  pub kinds : List ℕ
+  -- "It owns a mutex from the lock or unlock that gives it the mutex until its own accepted unlock of it."
+  pub owner : ℕ → Option ℕ
+  -- "It waits from a step of its own answered 1 until a step ends that wait."
+  pub wait : ℕ → Option Begun
+  -- who waits, in the order in which their waits began
+  pub order : List ℕ
+  -- "It runs while the rules name it as the task to run"
+  pub runs : Option ℕ
+  -- accepted holds less accepted frees: "Scheduling is held while hold depth is above 0."
+  pub depth : ℕ
+  -- an accepted start was in the list
+  pub started : Bool
+
+unfoldable pub nothingTold : Told
+nothingTold = record { priorities = []; kinds = []; owner = λ m. none; wait = λ i. none; order = []; runs = none; depth = 0; started = false }
+
+-- how many tasks were made
+abbrev pub tasksMade : Told → ℕ
+tasksMade h = length (h .priorities)
+
+abbrev pub ownPriority : Told → ℕ → ℕ
+ownPriority h i = getD (h .priorities) i 0
+
+unfoldable pub begunMutex : Option Begun → Option ℕ
+begunMutex none = none
+begunMutex (some b) = mutexIn (b .on)
+
+-- the owner of the mutex for which i waits
+unfoldable pub toldNext : Told → ℕ → Option ℕ
+toldNext h i = andThen (begunMutex (h .wait i)) (h .owner)
+
+-- the owner of the inheriting mutex for which i waits
+unfoldable pub toldLends : Told → ℕ → Option ℕ
+toldLends h i = andThen (begunMutex (h .wait i)) (λ m. cond (eqb (getD (h .kinds) m 0) inheriting) (h .owner m) none)
+
+-- the level as the history defines it
+unfoldable pub toldLevel : Told → ℕ → ℕ
+toldLevel h = leastLeading (tasksMade h) (toldLends h) (ownPriority h)
+
+unfoldable pub begunFor : Option Begun → Awaited → Bool
+begunFor none a = false
+begunFor (some b) a = sameAwaited (b .on) a
+
+-- the best waiter: least level as the history defines it, oldest wait first
+unfoldable pub toldBest : Told → Awaited → Option ℕ
+toldBest h a = leastFirst (toldLevel h) (keep (λ i. begunFor (h .wait i) a) (h .order))
+
+-- f, but x at k
+abbrev pub at : {A : Type 0} → ℕ → A → (ℕ → A) → ℕ → A
+at k x f i = cond (eqb i k) x (f i)
+
+abbrev pub toldWaits : Told → (ℕ → Option Begun) → List ℕ → Told
+toldWaits h w l = record { priorities = h .priorities; kinds = h .kinds; owner = h .owner; wait = w; order = l; runs = h .runs; depth = h .depth; started = h .started }
+
+abbrev pub toldOwner : Told → ℕ → Option ℕ → Told
+toldOwner h m o = record { priorities = h .priorities; kinds = h .kinds; owner = at m o (h .owner); wait = h .wait; order = h .order; runs = h .runs; depth = h .depth; started = h .started }
+
+-- the task that ran begins to wait
+unfoldable pub begins : Told → Awaited → ℕ → Option ℕ → Told
+begins h a t none = h
+begins h a t (some r) = toldWaits h (at r (some (record { on = a; time = t; ticks = 0 })) (h .wait)) (h .order ++ (r ∷ []))
+
+-- some waits end
+unfoldable pub endsWhere : Told → (ℕ → Bool) → Told
+endsWhere h p = toldWaits h (λ i. cond (p i) none (h .wait i)) (keep (λ i. not (p i)) (h .order))
+
+unfoldable pub endsOf : Told → Option ℕ → Told
+endsOf h none = h
+endsOf h (some w) = endsWhere h (eqb w)
+
+-- "Each wait begun with time t ends at the t-th tick after it."
+unfoldable pub timeUp : Option Begun → Bool
+timeUp none = false
+timeUp (some b) = not (eqb (b .time) forever) and eqb (b .ticks + 1) (b .time)
+
+unfoldable pub oneMore : Option Begun → Option Begun
+oneMore none = none
+oneMore (some b) = some (record { on = b .on; time = b .time; ticks = b .ticks + 1 })
+
+unfoldable pub ticked : Told → Told
+ticked h = toldWaits h (λ i. cond (timeUp (h .wait i)) none (oneMore (h .wait i))) (keep (λ i. not (timeUp (h .wait i))) (h .order))
+
+-- what an accepted step tells, by its answer's number
+unfoldable pub tells : Told → Step → ℕ → Told
+tells h (task p) k = record { priorities = h .priorities ++ (p ∷ []); kinds = h .kinds; owner = h .owner; wait = h .wait; order = h .order; runs = h .runs; depth = h .depth; started = h .started }
+tells h (mutex q) k = record { priorities = h .priorities; kinds = h .kinds ++ (q ∷ []); owner = h .owner; wait = h .wait; order = h .order; runs = h .runs; depth = h .depth; started = h .started }
+tells h (sem count max) k = h
+tells h start k = record { priorities = h .priorities; kinds = h .kinds; owner = h .owner; wait = h .wait; order = h .order; runs = h .runs; depth = h .depth; started = true }
+tells h (lock m t) k = cond (eqb k 1) (begins h (mutexOf m) t (h .runs)) (toldOwner h m (h .runs))
+tells h (unlock m) k = let w = toldBest h (mutexOf m) in toldOwner (endsOf h w) m w
+tells h (pend j t) k = cond (eqb k 1) (begins h (semOf j) t (h .runs)) h
+tells h (post j) k = endsOf h (toldBest h (semOf j))
+tells h (flush j) k = endsWhere h (λ i. begunFor (h .wait i) (semOf j))
+tells h (sleep t) k = begins h time t (h .runs)
+tells h yield k = h
+tells h hold k = record { priorities = h .priorities; kinds = h .kinds; owner = h .owner; wait = h .wait; order = h .order; runs = h .runs; depth = h .depth + 1; started = h .started }
+tells h free k = record { priorities = h .priorities; kinds = h .kinds; owner = h .owner; wait = h .wait; order = h .order; runs = h .runs; depth = h .depth - 1; started = h .started }
+tells h tick k = ticked h
+tells h (level i) k = h
+tells h (outcome i) k = h
+
+abbrev pub nowRuns : Told → Option ℕ → Told
+nowRuns h r = record { priorities = h .priorities; kinds = h .kinds; owner = h .owner; wait = h .wait; order = h .order; runs = r; depth = h .depth; started = h .started }
+
+-- "A step answered 0 or 1 is accepted; any other is refused"
+unfoldable pub observe : Told → Event → Told
+observe h e = nowRuns (cond (leb (e .number) 1) (tells h (e .made) (e .number)) h) (e .run)
+
+-- what a list of events tells, the first event first
+unfoldable pub toldFrom : Told → List Event → Told
+toldFrom h [] = h
+toldFrom h (e ∷ es) = toldFrom (observe h e) es
+
+unfoldable pub told : List Event → Told
+told es = toldFrom nothingTold es
