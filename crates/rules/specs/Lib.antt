@@ -19,3 +19,4 @@ pub mod SoundLaws
 pub mod Vectors
 pub mod History
 pub mod Demand
+pub mod RefusalLaws
