@@ -20,3 +20,4 @@ pub mod Vectors
 pub mod History
 pub mod Demand
 pub mod RefusalLaws
+pub mod AgreeLaws
