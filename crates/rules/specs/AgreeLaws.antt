@@ -12,13 +12,12 @@ use lib.ListN.{length, getD, List·getD-map}
 use lib.Seq.{getD-set-same, getD-set-other}
 use borrow.Author.Tests.{leb-false, lt-leb, eq-eqb, ne-eqb}
 use Rattle.lists.specs.Test.{_and_, someb, holds}
-use Rattle.lists.specs.Order.{keep, leastFirst, before}
+use Rattle.lists.specs.Order.{keep, leastFirst}
 use Rattle.lists.specs.Table.{putWhere}
 use Rattle.lists.specs.TestLaws.{which, clash, by-test}
 use Rattle.lists.specs.TableLaws.{snoc-default}
-use Rattle.chains.specs.Chain.{on}
 use Rattle.chains.specs.Least.{leastLeading}
-use Rattle.rules.specs.Sizes.{kinds, inheriting, forever, granted, flushed}
+use Rattle.rules.specs.Sizes.{inheriting, forever, granted, flushed}
 use Rattle.rules.specs.Tables.{Awaited, mutexOf, semOf, time, Wait, Tables, withCounts, withMaxima, tasks, mutexes, priorityOf, waitOf, kindOf, ownerOf, countOf}
 use Rattle.rules.specs.Levels.{mutexAwaited, andThen, next, heirOf, lends, levelIn, linksOf, waitIsFor, awaits, waitersOf, bestWaiter}
 use Rattle.rules.specs.State.{State, fresh, withTables, placed, levelOf}
@@ -120,7 +119,7 @@ module _ {t : Tables} {h : Told} (A : Matches t h) where
       same : (m : ℕ) → heir m ≡ heirOf t m
       same m = ap (λ k. cond (eqb (getD k m 0) inheriting) (h .owner m) none) (A .kinds) ∙ ap (λ o. cond (eqb (kindOf t m) inheriting) o none) (A .owner m)
 
-  level-told : toldLevel h ≡ levelIn t
+  pub level-told : toldLevel h ≡ levelIn t
   unfolding toldLevel levelIn
   level-told = ap (λ p. leastLeading (length p) (toldLends h) (λ i. getD p i 0)) (A .priorities) ∙ ap (λ l. leastLeading (tasks t) l (priorityOf t)) lends-told
 

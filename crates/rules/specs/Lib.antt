@@ -21,3 +21,4 @@ pub mod History
 pub mod Demand
 pub mod RefusalLaws
 pub mod AgreeLaws
+pub mod DemandLaws

@@ -24,7 +24,6 @@ use Rattle.rules.specs.Refusal.{Row, noCredit, refusals, firstRow, table
 use Rattle.rules.specs.Sound.{soundb}
 use Rattle.rules.specs.Answer.{Answer, refused, accepted, decide, stepSound, standing, stopped, step}
 use Rattle.rules.specs.Log.{logLine, withRoom, memoryAfter, Call, inRoom, call}
-use Rattle.rules.specs.History.{at}
 
 -- the first list is a part of the second, in the second's order
 unfoldable pub inOrder : List ℕ → List ℕ → Bool
