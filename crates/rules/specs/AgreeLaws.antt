@@ -33,7 +33,7 @@ use Rattle.rules.specs.WaiterLaws.{best-is-least}
 use Rattle.rules.specs.StepLaws.{passed, caller-in}
 use Rattle.rules.specs.SoundLaws.{inv-sound}
 use Rattle.rules.specs.History.{Event, Begun, Told, nothingTold, begunMutex, toldNext, toldLends, toldLevel, begunFor, toldBest, toldOwner, begins, endsWhere, endsOf, timeUp, oneMore, ticked, tells, nowRuns, observe}
-use Rattle.rules.specs.RefusalLaws.{refused-number, refused-above, step-by, call-by}
+use Rattle.rules.specs.RefusalLaws.{refused-number, refused-above, step-by, call-by, sound-stands}
 
 -- a wait as the list tells it, in the words of the tables
 unfoldable pub asWait : Option Begun → Option Wait
@@ -324,13 +324,9 @@ module _ (s : State) (h : Told) (I : Inv s) (A : Agrees s h) where
   accept-told (level i) e = tells-by (level i) (effect s (level i)) h refl refl (A .tables) (A .depth) (A .started)
   accept-told (outcome i) e = tells-by (outcome i) (effect s (outcome i)) h refl refl (A .tables) (A .depth) (A .started)
 
-  stands : standing s ≡ s .running
-  unfolding standing
-  stands = rw (inv-sound s I) refl
-
   -- after every call the state is as told
   pub call-agrees : (c : Call) → AsTold (c .made) (call s c)
   call-agrees c = call-by (AsTold (c .made)) s c (step-by (AsTold (c .made)) s (c .made)
       (λ r e. again (c .made) (r .number) (r .value) (s .running) (refused-above (r .number) (refused-number s (c .made) r e)) refl)
       (accept-told (c .made)) (λ e. absurd (clash (inv-sound s I) e)))
-      (again (c .made) 8 0 (standing s) (omega arith) stands)
+      (again (c .made) 8 0 (standing s) (omega arith) (sound-stands s I))

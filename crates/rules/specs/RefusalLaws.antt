@@ -1,29 +1,35 @@
--- Laws of the numbers that come back: the table's order, what a refused step leaves, and what a log line does to the lent memory.
+-- Laws of single answers: the table's order, what a refused step leaves, what hold and yield do, and the lent memory.
 use mathlib.Core.Path.{_≡_, refl, ap, sym, _∙_}
 use mathlib.Core.List.{List, [], _∷_, _++_, map}
-use mathlib.Core.Bool.{Bool, true, false, cond}
+use mathlib.Core.Bool.{Bool, true, false, cond, not}
 use mathlib.Core.Logic.{inl, inr}
 use mathlib.Core.Option.{Option, none, some}
 use Prim.Native.Nat.{ℕ, zero, suc, _≤_, _<_}
 use native.Mathlib.Omega.{arith}
 use native.Mathlib.Decide.{ℕ-discrete}
-use lib.Dec.{leb, eqb}
+use lib.Dec.{ltb, leb, eqb}
 use lib.ListN.{length, take, drop, length-append, length-drop}
 use lib.Seq.{take-at, drop-at}
-use borrow.Author.Tests.{eqb-true, le-leb, lt-leb}
-use Rattle.lists.specs.Count.{eqn, occ}
-use Rattle.lists.specs.TestLaws.{which, clash, by-test, none-some, some-same}
-use Rattle.lists.specs.CountLaws.{eqn-at, eqn-other}
-use Rattle.rules.specs.Tables.{mutexOf, semOf, ownerOf}
+use borrow.Author.Tests.{eqb-true, lt-ltb, le-ltb, le-leb, lt-leb, eq-eqb}
+use Rattle.lists.specs.Test.{_and_}
+use Rattle.lists.specs.Count.{eqn, occ, member}
+use Rattle.lists.specs.Order.{keep, upTo, byId, insertTail, Asc}
+use Rattle.lists.specs.TestLaws.{which, clash, by-test, and-l, and-false, none-some, some-same, true-some}
+use Rattle.lists.specs.CountLaws.{eqn-at, eqn-other, occ-head, below-out}
+use Rattle.lists.specs.OrderLaws.{stable-asc, stable-snoc, keep-all, keep-none, keep-append, occ-upTo}
+use Rattle.rules.specs.Tables.{mutexOf, semOf, tasks, ownerOf}
 use Rattle.rules.specs.Levels.{bestWaiter}
-use Rattle.rules.specs.State.{State}
+use Rattle.rules.specs.State.{State, placed, levelOf}
 use Rattle.rules.specs.Step.{Step, task, mutex, sem, start, lock, unlock, pend, post, flush, sleep, yield, hold, free, tick, level, outcome}
-use Rattle.rules.specs.Effect.{Effect, callerWaits, lockBy, passOn, pendBy, credit, flushOf, tickOf, yieldBy, called, effect}
-use Rattle.rules.specs.Settle.{finish}
-use Rattle.rules.specs.Refusal.{Row, noCredit, refusals, firstRow, tableOrder}
+use Rattle.rules.specs.Effect.{Effect, done, callerWaits, lockBy, passOn, pendBy, credit, flushOf, tickOf, yieldBy, called, effect}
+use Rattle.rules.specs.Settle.{settledReady, settle, meet, dispatch, finish}
+use Rattle.rules.specs.Refusal.{Row, held, taken, noCredit, refusals, firstRow, tableOrder}
 use Rattle.rules.specs.Sound.{soundb}
 use Rattle.rules.specs.Answer.{Answer, refused, accepted, decide, stepSound, standing, stopped, step}
 use Rattle.rules.specs.Log.{logLine, withRoom, memoryAfter, Call, inRoom, call}
+use Rattle.rules.specs.Invariant.{Inv}
+use Rattle.rules.specs.StepLaws.{passed, caller-in}
+use Rattle.rules.specs.SoundLaws.{inv-sound}
 
 -- the first list is a part of the second, in the second's order
 unfoldable pub inOrder : List ℕ → List ℕ → Bool
@@ -81,11 +87,11 @@ refused-above zero h = absurd (omega arith)
 refused-above (suc zero) h = absurd (omega arith)
 refused-above (suc (suc n)) h = omega arith
 
--- what a step called by nobody or somebody is answered
-caller-number : (s : State) (o : Option ℕ) (f : ℕ → Effect) → ((r : ℕ) → (f r) .number ≤ 1) → (called s o f) .number ≤ 1
+-- what holds of a step with a caller
+caller-by : (P : Effect → Type 0) (s : State) (o : Option ℕ) (f : ℕ → Effect) → P (done s [] 0) → ((r : ℕ) → P (f r)) → P (called s o f)
 unfolding called
-caller-number s none f h = omega arith
-caller-number s (some r) f h = h r
+caller-by P s none f g h = g
+caller-by P s (some r) f g h = h r
 
 -- an accepted step is answered 0 or 1
 pub accepted-number : (s : State) (x : Step) → (effect s x) .number ≤ 1
@@ -94,7 +100,7 @@ accepted-number s (task p) = omega arith
 accepted-number s (mutex k) = omega arith
 accepted-number s (sem count max) = omega arith
 accepted-number s start = omega arith
-accepted-number s (lock m t) = caller-number s (s .running) _ (λ r. go r (ownerOf (s .tables) m))
+accepted-number s (lock m t) = caller-by (λ e. e .number ≤ 1) s (s .running) _ (omega arith) (λ r. go r (ownerOf (s .tables) m))
   where
     go : (r : ℕ) (o : Option ℕ) → (lockBy s m t r o) .number ≤ 1
     go r none = omega arith
@@ -104,15 +110,15 @@ accepted-number s (unlock m) = go (bestWaiter (s .tables) (mutexOf m))
     go : (o : Option ℕ) → (passOn s m o) .number ≤ 1
     go none = omega arith
     go (some w) = omega arith
-accepted-number s (pend k t) = caller-number s (s .running) _ (λ r. by-test (λ (e : Effect). e .number ≤ 1) (noCredit s k) (λ q. omega arith) (λ q. omega arith))
+accepted-number s (pend k t) = caller-by (λ e. e .number ≤ 1) s (s .running) _ (omega arith) (λ r. by-test (λ (e : Effect). e .number ≤ 1) (noCredit s k) (λ q. omega arith) (λ q. omega arith))
 accepted-number s (post k) = go (bestWaiter (s .tables) (semOf k))
   where
     go : (o : Option ℕ) → (credit s k o) .number ≤ 1
     go none = omega arith
     go (some w) = omega arith
 accepted-number s (flush k) = omega arith
-accepted-number s (sleep t) = caller-number s (s .running) _ (λ r. omega arith)
-accepted-number s yield = caller-number s (s .running) _ (λ r. omega arith)
+accepted-number s (sleep t) = caller-by (λ e. e .number ≤ 1) s (s .running) _ (omega arith) (λ r. omega arith)
+accepted-number s yield = caller-by (λ e. e .number ≤ 1) s (s .running) _ (omega arith) (λ r. omega arith)
 accepted-number s hold = omega arith
 accepted-number s free = omega arith
 accepted-number s tick = omega arith
@@ -158,6 +164,117 @@ call-number s c = call-by (λ a. 1 ≤ occ (a .number) numbers) s c (step-by (λ
     small zero h = omega arith
     small (suc zero) h = omega arith
     small (suc (suc n)) h = absurd (omega arith)
+
+-- the running task as it stands
+pub sound-stands : (s : State) → Inv s → standing s ≡ s .running
+unfolding standing
+sound-stands s I = rw (inv-sound s I) refl
+
+-- "Scheduling is held while hold depth is above 0": no step takes the running task away before the free that ends the hold
+meet-held : (s : State) (r : ℕ) (l : List ℕ) → 1 ≤ (meet s (some r) l) .hold → (meet s (some r) l) .running ≡ some r
+unfolding meet
+meet-held s r [] = λ h. refl
+meet-held s r (x ∷ l) = by-test (λ (z : State). 1 ≤ z .hold → z .running ≡ some r) (eqb (s .hold) 0 and ltb (levelOf s x) (levelOf s r))
+    (λ e h. absurd (omega (arith, eqb-true (s .hold) 0 (and-l _ _ e)))) (λ e h. refl)
+
+finish-held : (s : State) (e : Effect) (r : ℕ) → e .state .running ≡ some r → 1 ≤ (finish s e) .hold → (finish s e) .running ≡ some r
+unfolding finish dispatch
+finish-held s e r run = by-test (λ (z : State). 1 ≤ z .hold → z .running ≡ some r) (e .state .started) (λ q. go (e .state .running) run) (λ q h. run)
+  where
+    settled : State
+    settled = settle (levelOf s) (e .state) (e .woken)
+
+    go : (o : Option ℕ) → o ≡ some r → 1 ≤ (meet settled o (settled .ready)) .hold → (meet settled o (settled .ready)) .running ≡ some r
+    go o q = rw q (meet-held settled r (settled .ready))
+
+effect-held : (s : State) (x : Step) → held s ≡ true → firstRow (refusals s x) ≡ none → (effect s x) .state .running ≡ s .running
+unfolding effect refusals callerWaits lockBy passOn pendBy credit flushOf tickOf
+effect-held s (task p) h e = refl
+effect-held s (mutex k) h e = refl
+effect-held s (sem count max) h e = refl
+effect-held s start h e = refl
+effect-held s (lock m t) h e = caller-by (λ z. z .state .running ≡ s .running) s (s .running) _ refl (λ r. go r (ownerOf (s .tables) m) refl)
+  where
+    row : taken s m and held s ≡ false
+    row = passed _ _ (passed _ _ (passed _ _ (passed _ _ (passed _ _ (passed _ _ (passed _ _ e .1) .1) .1) .1) .1) .1) .0
+
+    go : (r : ℕ) (o : Option ℕ) → ownerOf (s .tables) m ≡ o → (lockBy s m t r o) .state .running ≡ s .running
+    go r none q = refl
+    go r (some o) q = absurd (clash h (and-false _ _ (true-some (ownerOf (s .tables) m) o q) row))
+effect-held s (unlock m) h e = go (bestWaiter (s .tables) (mutexOf m))
+  where
+    go : (o : Option ℕ) → (passOn s m o) .state .running ≡ s .running
+    go none = refl
+    go (some w) = refl
+effect-held s (pend k t) h e = caller-by (λ z. z .state .running ≡ s .running) s (s .running) _ refl (λ r. by-test (λ (z : Effect). z .state .running ≡ s .running) (noCredit s k)
+    (λ q. absurd (clash h (and-false _ _ q row))) (λ q. refl))
+  where
+    row : noCredit s k and held s ≡ false
+    row = passed _ _ (passed _ _ (passed _ _ (passed _ _ (passed _ _ (passed _ _ e .1) .1) .1) .1) .1) .0
+effect-held s (post k) h e = go (bestWaiter (s .tables) (semOf k))
+  where
+    go : (o : Option ℕ) → (credit s k o) .state .running ≡ s .running
+    go none = refl
+    go (some w) = refl
+effect-held s (flush k) h e = refl
+effect-held s (sleep t) h e = absurd (clash h (passed _ _ (passed _ _ (passed _ _ (passed _ _ e .1) .1) .1) .0))
+effect-held s yield h e = absurd (clash h (passed _ _ (passed _ _ (passed _ _ e .1) .1) .0))
+effect-held s hold h e = refl
+effect-held s free h e = refl
+effect-held s tick h e = refl
+effect-held s (level i) h e = refl
+effect-held s (outcome i) h e = refl
+
+pub held-stays : (s : State) → Inv s → (c : Call) → 1 ≤ s .hold → 1 ≤ (call s c) .state .hold → (call s c) .run ≡ s .running
+held-stays s I c h = call-by Stays s c (step-by Stays s (c .made) (λ r e k. refl) (λ e k. accept e k) (λ e. absurd (clash (inv-sound s I) e))) (λ k. sound-stands s I)
+  where
+    Stays : Answer → Type 0
+    Stays a = 1 ≤ a .state .hold → a .run ≡ s .running
+
+    runner : (r : ℕ) × (s .running ≡ some r)
+    runner = elim (which (s .started)) [ inl e ↦ I .when-started e .hold-runs h | inr e ↦ absurd (omega (arith, I .in-set-up e .hold-0)) ]
+
+    accept : firstRow (refusals s (c .made)) ≡ none → 1 ≤ (finish s (effect s (c .made))) .hold → (finish s (effect s (c .made))) .running ≡ s .running
+    accept e k = finish-held s (effect s (c .made)) (runner .0) (effect-held s (c .made) (lt-ltb 0 (s .hold) h) e ∙ runner .1) k ∙ sym (runner .1)
+
+-- "yield: the caller goes to the tail of its level"
+only-one : (p : ℕ → Bool) (r : ℕ) → p r ≡ true → ((y : ℕ) → (y ≡ r → ⊥) → p y ≡ false) → (n : ℕ) → r < n → keep p (upTo n) ≡ r ∷ []
+unfolding keep upTo
+only-one p r passes others zero h = absurd (omega arith)
+only-one p r passes others (suc n) h = elim (ℕ-discrete r n) [
+  | yes e ↦ keep-append p (upTo n) (n ∷ []) ∙ rw (keep-none p (upTo n) (λ y m. others y (λ q. omega (arith, occ-upTo y n, below-out y n (omega arith)))), ← e, passes) refl
+  | no q ↦ keep-append p (upTo n) (n ∷ []) ∙ rw (only-one p r passes others n (omega arith), others n (λ e. q (sym e))) refl
+]
+
+settled-yield : (n r : ℕ) (f : ℕ → ℕ) (ready : List ℕ) → r < n → Asc f ready → settledReady n f f ready (r ∷ []) ≡ insertTail f r ready
+unfolding settledReady byId _and_ occ
+settled-yield n r f ready h a = rw (
+  keep-all (λ i. eqb (f i) (f i)) ready (λ y m. eq-eqb (f y) (f y) refl),
+  keep-none (λ i. not (eqb (f i) (f i)) and member i ready) (upTo n) (λ y m. rw (eq-eqb (f y) (f y) refl) refl),
+  only-one (λ i. member i (r ∷ [])) r (lt-ltb 0 (occ r (r ∷ [])) (occ-head r [])) (λ y q. le-ltb 0 (occ y (r ∷ [])) (omega (arith, eqn-other r y (λ e. q (sym e))))) n h,
+) (stable-snoc f ready r ∙ ap (insertTail f r) (stable-asc f ready a))
+
+-- who is first in the order then runs
+meet-again : (s : State) (q r : Option ℕ) (k l : List ℕ) → meet (placed s q k) r l ≡ meet s r l
+unfolding meet
+meet-again s q r k [] = refl
+meet-again s q none k (x ∷ l) = refl
+meet-again s q (some r) k (x ∷ l) = refl
+
+pub yield-to-tail : (s : State) → Inv s → (r : ℕ) → s .started ≡ true → s .running ≡ some r → s .hold ≡ 0
+    → (step s yield) .state ≡ meet s none (insertTail (levelOf s) r (s .ready))
+unfolding refusals firstRow effect called yieldBy finish dispatch
+yield-to-tail s I r began run unheld = step-by (λ a. a .state ≡ next) s yield (λ q e. none-some passes e) (λ e. go (s .running) run) (λ e. absurd (clash (inv-sound s I) e))
+  where
+    next : State
+    next = meet s none (insertTail (levelOf s) r (s .ready))
+
+    passes : firstRow (refusals s yield) ≡ none
+    passes = rw (ap not began, ap not (true-some (s .running) r run), le-ltb 0 (s .hold) (omega arith)) refl
+
+    go : (o : Option ℕ) → o ≡ some r → finish s (called s o (yieldBy s)) ≡ next
+    go o q = rw q (by-test (λ (z : State). z ≡ next) (s .started)
+        (λ e. meet-again s none none _ _ ∙ ap (meet s none) (settled-yield (tasks (s .tables)) r (levelOf s) (s .ready) (caller-in s I r run) (I .ascending))) (λ e. absurd (clash began e)))
 
 -- 15: "the state handed in isn't sound", and no task is named
 pub unsound-15 : (s : State) (x : Step) → soundb s ≡ false → step s x ≡ record { state = s; number = 15; value = 0; run = none }
