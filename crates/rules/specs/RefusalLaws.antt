@@ -1,4 +1,4 @@
--- Laws of single answers: the table's order, what a refused step leaves, what hold and yield do, and the lent memory.
+-- Laws of single answers: the table's order, what a refused step leaves, what unlock, hold and yield do, and the lent memory.
 use mathlib.Core.Path.{_≡_, refl, ap, sym, _∙_}
 use mathlib.Core.List.{List, [], _∷_, _++_, map}
 use mathlib.Core.Bool.{Bool, true, false, cond, not}
@@ -10,11 +10,11 @@ use native.Mathlib.Decide.{ℕ-discrete}
 use lib.Dec.{ltb, leb, eqb}
 use lib.ListN.{length, take, drop, length-append, length-drop}
 use lib.Seq.{take-at, drop-at}
-use borrow.Author.Tests.{eqb-true, lt-ltb, le-ltb, le-leb, lt-leb, eq-eqb}
-use Rattle.lists.specs.Test.{_and_}
+use borrow.Author.Tests.{eqb-true, not-false, lt-ltb, le-ltb, le-leb, lt-leb, eq-eqb}
+use Rattle.lists.specs.Test.{_and_, holds}
 use Rattle.lists.specs.Count.{eqn, occ, member}
 use Rattle.lists.specs.Order.{keep, upTo, byId, insertTail, Asc}
-use Rattle.lists.specs.TestLaws.{which, clash, by-test, and-l, and-false, none-some, some-same, true-some}
+use Rattle.lists.specs.TestLaws.{which, clash, by-test, and-l, and-false, none-some, some-same, true-some, holds-true}
 use Rattle.lists.specs.CountLaws.{eqn-at, eqn-other, occ-head, below-out}
 use Rattle.lists.specs.OrderLaws.{stable-asc, stable-snoc, keep-all, keep-none, keep-append, occ-upTo}
 use Rattle.rules.specs.Tables.{mutexOf, semOf, tasks, ownerOf}
@@ -23,7 +23,7 @@ use Rattle.rules.specs.State.{State, placed, levelOf}
 use Rattle.rules.specs.Step.{Step, task, mutex, sem, start, lock, unlock, pend, post, flush, sleep, yield, hold, free, tick, level, outcome}
 use Rattle.rules.specs.Effect.{Effect, done, callerWaits, lockBy, passOn, pendBy, credit, flushOf, tickOf, yieldBy, called, effect}
 use Rattle.rules.specs.Settle.{settledReady, settle, meet, dispatch, finish}
-use Rattle.rules.specs.Refusal.{Row, held, taken, noCredit, refusals, firstRow, tableOrder}
+use Rattle.rules.specs.Refusal.{Row, held, ofCaller, taken, noCredit, refusals, firstRow, tableOrder}
 use Rattle.rules.specs.Sound.{soundb}
 use Rattle.rules.specs.Answer.{Answer, refused, accepted, decide, stepSound, standing, stopped, step}
 use Rattle.rules.specs.Log.{logLine, withRoom, memoryAfter, Call, inRoom, call}
@@ -164,6 +164,19 @@ call-number s c = call-by (λ a. 1 ≤ occ (a .number) numbers) s c (step-by (λ
     small zero h = omega arith
     small (suc zero) h = omega arith
     small (suc (suc n)) h = absurd (omega arith)
+
+-- "until its own accepted unlock of it": an accepted unlock is the owner's
+pub unlock-own : (s : State) (m : ℕ) → (step s (unlock m)) .number ≤ 1 → (r : ℕ) × (s .running ≡ some r) × (ownerOf (s .tables) m ≡ some r)
+unfolding refusals ofCaller
+unlock-own s m = step-by (λ a. a .number ≤ 1 → Own) s (unlock m) (λ q e h. absurd (omega (arith, refused-above (q .number) (refused-number s (unlock m) q e))))
+    (λ e h. go (s .running) refl (not-false _ (passed _ _ (passed _ _ (passed _ _ (passed _ _ e .1) .1) .1) .0))) (λ e h. absurd (omega arith))
+  where
+    Own : Type 0
+    Own = (r : ℕ) × (s .running ≡ some r) × (ownerOf (s .tables) m ≡ some r)
+
+    go : (o : Option ℕ) → s .running ≡ o → ofCaller o (holds (ownerOf (s .tables) m)) ≡ true → Own
+    go none q e = absurd (clash e refl)
+    go (some r) q e = (r, q, holds-true (ownerOf (s .tables) m) r e)
 
 -- the running task as it stands
 pub sound-stands : (s : State) → Inv s → standing s ≡ s .running
