@@ -19,3 +19,6 @@ pub mod SoundLaws
 pub mod Vectors
 pub mod History
 pub mod Demand
+pub mod RefusalLaws
+pub mod AgreeLaws
+pub mod DemandLaws

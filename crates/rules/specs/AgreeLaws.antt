@@ -1,0 +1,332 @@
+-- What the list of events tells is what the state holds: the history agrees with the rules' state after every call.
+use mathlib.Core.Path.{_≡_, refl, ap, sym, _∙_, fun-ext}
+use mathlib.Core.List.{List, [], _∷_, _++_}
+use mathlib.Core.Bool.{Bool, true, false, cond, not}
+use mathlib.Core.Logic.{inl, inr}
+use mathlib.Core.Option.{Option, none, some}
+use Prim.Native.Nat.{ℕ, _+_, _-_, _<_}
+use native.Mathlib.Omega.{arith}
+use native.Mathlib.Decide.{ℕ-discrete}
+use lib.Dec.{ltb, leb, eqb}
+use lib.ListN.{length, getD, List·getD-map}
+use lib.Seq.{getD-set-same, getD-set-other}
+use borrow.Author.Tests.{leb-false, lt-leb, eq-eqb, ne-eqb}
+use Rattle.lists.specs.Test.{_and_, someb, holds}
+use Rattle.lists.specs.Order.{keep, leastFirst}
+use Rattle.lists.specs.Table.{putWhere}
+use Rattle.lists.specs.TestLaws.{which, clash, by-test}
+use Rattle.lists.specs.TableLaws.{snoc-default}
+use Rattle.chains.specs.Least.{leastLeading}
+use Rattle.rules.specs.Sizes.{inheriting, forever, granted, flushed}
+use Rattle.rules.specs.Tables.{Awaited, mutexOf, semOf, time, Wait, Tables, withCounts, withMaxima, tasks, mutexes, priorityOf, waitOf, kindOf, ownerOf, countOf}
+use Rattle.rules.specs.Levels.{mutexAwaited, andThen, next, heirOf, lends, levelIn, linksOf, waitIsFor, awaits, waitersOf, bestWaiter}
+use Rattle.rules.specs.State.{State, fresh, withTables, placed, levelOf}
+use Rattle.rules.specs.Step.{Step, task, mutex, sem, start, lock, unlock, pend, post, flush, sleep, yield, hold, free, tick, level, outcome}
+use Rattle.rules.specs.Effect.{Effect, done, addTask, addMutex, give, setCount, beginWait, endWaits, ticksOf, waitFor, callerWaits, lockBy, passOn, pendBy, credit, flushOf, isDue, due, lessOne, age, ageAll, tickOf, yieldBy, called, effect}
+use Rattle.rules.specs.Settle.{settle, meet, dispatch, finish}
+use Rattle.rules.specs.Refusal.{noCredit, refusals, firstRow}
+use Rattle.rules.specs.Answer.{Answer, accepted, standing}
+use Rattle.rules.specs.Log.{Call, call}
+use Rattle.rules.specs.Invariant.{Facts, Inv}
+use Rattle.rules.specs.FactsLaws.{wait-ended}
+use Rattle.rules.specs.WaiterLaws.{best-is-least}
+use Rattle.rules.specs.StepLaws.{passed, caller-in}
+use Rattle.rules.specs.SoundLaws.{inv-sound}
+use Rattle.rules.specs.History.{Event, Begun, Told, nothingTold, begunMutex, toldNext, toldLends, toldLevel, begunFor, toldBest, toldOwner, begins, endsWhere, endsOf, timeUp, oneMore, ticked, tells, nowRuns, observe}
+use Rattle.rules.specs.RefusalLaws.{refused-number, refused-above, step-by, call-by, sound-stands}
+
+-- a wait as the list tells it, in the words of the tables
+unfoldable pub asWait : Option Begun → Option Wait
+asWait none = none
+asWait (some b) = some (record { on = b .on; left = cond (eqb (b .time) forever) none (some (b .time - b .ticks)) })
+
+-- the tables match what is told
+pub record Matches (t : Tables) (h : Told) : Type 0 where
+  pub priorities : h .priorities ≡ t .priorities
+  pub kinds : h .kinds ≡ t .kinds
+  pub owner : (m : ℕ) → h .owner m ≡ ownerOf t m
+  pub wait : (i : ℕ) → asWait (h .wait i) ≡ waitOf t i
+  pub order : h .order ≡ t .waiting
+
+-- the state is as told
+pub record Agrees (s : State) (h : Told) : Type 0 where
+  pub tables : Matches (s .tables) h
+  pub runs : h .runs ≡ s .running
+  pub depth : h .depth ≡ s .hold
+  pub started : h .started ≡ s .started
+
+pub fresh-agrees : Agrees fresh nothingTold
+unfolding fresh nothingTold asWait
+fresh-agrees = record {
+  tables = record { priorities = refl; kinds = refl; owner = λ m. refl; wait = λ i. refl; order = refl };
+  runs = refl;
+  depth = refl;
+  started = refl;
+}
+
+-- a wait, told and held
+begun-mutex : (w : Option Begun) → begunMutex w ≡ mutexAwaited (asWait w)
+unfolding begunMutex mutexAwaited asWait
+begun-mutex none = refl
+begun-mutex (some b) = refl
+
+begun-for : (a : Awaited) (w : Option Begun) → begunFor w a ≡ waitIsFor (asWait w) a
+unfolding begunFor waitIsFor asWait
+begun-for a none = refl
+begun-for a (some b) = refl
+
+same-test : (a b c d : ℕ) → (a ≡ b → c ≡ d) → (c ≡ d → a ≡ b) → eqb a b ≡ eqb c d
+same-test a b c d f g = elim (ℕ-discrete a b) [
+  | yes e ↦ eq-eqb a b e ∙ sym (eq-eqb c d (f e))
+  | no n ↦ ne-eqb a b n ∙ sym (ne-eqb c d (λ e. n (g e)))
+]
+
+-- the wait whose time is up has one tick left
+up-due : (w : Option Begun) → timeUp w ≡ isDue (asWait w)
+unfolding timeUp isDue asWait holds _and_
+up-due none = refl
+up-due (some b) = go (b .time) (b .ticks)
+  where
+    go : (t n : ℕ) → not (eqb t forever) and eqb (n + 1) t ≡ holds (cond (eqb t forever) none (some (t - n))) 1
+    go t n = elim (which (eqb t forever)) [
+      | inl e ↦ rw e refl
+      | inr e ↦ rw e (same-test (n + 1) t (t - n) 1 (λ q. omega arith) (λ q. omega arith))
+    ]
+
+more-less : (w : Option Begun) → asWait (oneMore w) ≡ age (asWait w)
+unfolding oneMore age asWait lessOne
+more-less none = refl
+more-less (some b) = ap (λ l. some (record { on = b .on; left = l })) (go (b .time) (b .ticks))
+  where
+    go : (t n : ℕ) → cond (eqb t forever) none (some (t - (n + 1))) ≡ lessOne (cond (eqb t forever) none (some (t - n)))
+    go t n = elim (which (eqb t forever)) [ inl e ↦ rw e refl | inr e ↦ rw e (ap some (omega arith)) ]
+
+module _ {t : Tables} {h : Told} (A : Matches t h) where
+  mutex-told : (i : ℕ) → begunMutex (h .wait i) ≡ mutexAwaited (waitOf t i)
+  mutex-told i = begun-mutex (h .wait i) ∙ ap mutexAwaited (A .wait i)
+
+  pub next-told : toldNext h ≡ next t
+  unfolding toldNext next
+  next-told = fun-ext (λ i. ap (λ w. andThen w (h .owner)) (mutex-told i) ∙ ap (andThen (mutexAwaited (waitOf t i))) (fun-ext (A .owner)))
+
+  pub lends-told : toldLends h ≡ lends t
+  unfolding toldLends lends
+  lends-told = fun-ext (λ i. ap (λ w. andThen w heir) (mutex-told i) ∙ ap (andThen (mutexAwaited (waitOf t i))) (fun-ext same))
+    where
+      heir : ℕ → Option ℕ
+      heir m = cond (eqb (getD (h .kinds) m 0) inheriting) (h .owner m) none
+
+      same : (m : ℕ) → heir m ≡ heirOf t m
+      same m = ap (λ k. cond (eqb (getD k m 0) inheriting) (h .owner m) none) (A .kinds) ∙ ap (λ o. cond (eqb (kindOf t m) inheriting) o none) (A .owner m)
+
+  pub level-told : toldLevel h ≡ levelIn t
+  unfolding toldLevel levelIn
+  level-told = ap (λ p. leastLeading (length p) (toldLends h) (λ i. getD p i 0)) (A .priorities) ∙ ap (λ l. leastLeading (tasks t) l (priorityOf t)) lends-told
+
+  for-told : (a : Awaited) → (λ i. begunFor (h .wait i) a) ≡ awaits t a
+  for-told a = fun-ext (λ i. begun-for a (h .wait i) ∙ ap (λ w. waitIsFor w a) (A .wait i))
+
+  -- the rules' search through the levels finds the waiter of least level whose wait is oldest
+  best-told : Facts t → (a : Awaited) → toldBest h a ≡ bestWaiter t a
+  unfolding toldBest waitersOf
+  best-told F a = ap (λ f. leastFirst f (keep (λ i. begunFor (h .wait i) a) (h .order))) level-told
+      ∙ (ap (λ p. leastFirst (levelIn t) (keep p (h .order))) (for-told a)
+      ∙ (ap (λ l. leastFirst (levelIn t) (keep (awaits t a) l)) (A .order) ∙ sym (best-is-least t F a)))
+
+  due-told : (λ i. timeUp (h .wait i)) ≡ due t
+  due-told = fun-ext (λ i. up-due (h .wait i) ∙ ap isDue (A .wait i))
+
+  -- each change of the tables, told and held
+  matches-task : (p k : ℕ) → Matches (addTask t p) (tells h (task p) k)
+  unfolding tells
+  matches-task p k = record {
+    priorities = ap (λ l. l ++ (p ∷ [])) (A .priorities);
+    kinds = A .kinds;
+    owner = A .owner;
+    wait = λ i. A .wait i ∙ sym (snoc-default none (t .waits) i);
+    order = A .order;
+  }
+
+  matches-mutex : (q k : ℕ) → Matches (addMutex t q) (tells h (mutex q) k)
+  unfolding tells
+  matches-mutex q k = record {
+    priorities = A .priorities;
+    kinds = ap (λ l. l ++ (q ∷ [])) (A .kinds);
+    owner = λ m. A .owner m ∙ sym (snoc-default none (t .owners) m);
+    wait = A .wait;
+    order = A .order;
+  }
+
+  -- who runs, the hold depth and the phase stand beside the tables
+  matches-beside : (r : Option ℕ) (d : ℕ) (b : Bool) → Matches t (record { priorities = h .priorities; kinds = h .kinds; owner = h .owner; wait = h .wait; order = h .order; runs = r; depth = d; started = b })
+  matches-beside r d b = record { priorities = A .priorities; kinds = A .kinds; owner = A .owner; wait = A .wait; order = A .order }
+
+  -- of semaphores nothing is told
+  matches-sems : (c m : List ℕ) → Matches (withMaxima (withCounts t c) m) h
+  matches-sems c m = record { priorities = A .priorities; kinds = A .kinds; owner = A .owner; wait = A .wait; order = A .order }
+
+  matches-give : (m : ℕ) (o : Option ℕ) → m < mutexes t → Matches (give t m o) (toldOwner h m o)
+  matches-give m o low = record {
+    priorities = A .priorities;
+    kinds = A .kinds;
+    owner = λ k. elim (ℕ-discrete k m) [
+      | yes e ↦ rw (e, eq-eqb m m refl) (sym (getD-set-same (t .owners) m o none low))
+      | no n ↦ rw (ne-eqb k m n) (A .owner k ∙ sym (getD-set-other (t .owners) m k o none n))
+    ];
+    wait = A .wait;
+    order = A .order;
+  }
+
+  matches-begin : (r : ℕ) (a : Awaited) (n : ℕ) → r < length (t .waits) → Matches (beginWait t r (waitFor a n)) (begins h a n (some r))
+  unfolding begins asWait ticksOf
+  matches-begin r a n low = record {
+    priorities = A .priorities;
+    kinds = A .kinds;
+    owner = A .owner;
+    wait = λ i. elim (ℕ-discrete i r) [
+      | yes e ↦ rw (e, eq-eqb r r refl) (begun ∙ sym (getD-set-same (t .waits) r (some (waitFor a n)) none low))
+      | no q ↦ rw (ne-eqb i r q) (A .wait i ∙ sym (getD-set-other (t .waits) r i (some (waitFor a n)) none q))
+    ];
+    order = ap (λ l. l ++ (r ∷ [])) (A .order);
+  }
+    where
+      begun : asWait (some (record { on = a; time = n; ticks = 0 })) ≡ some (waitFor a n)
+      begun = ap (λ k. some (record { on = a; left = cond (eqb n forever) none (some k) })) (omega arith)
+
+  matches-end : (p : ℕ → Bool) (out : ℕ → ℕ) → Matches (endWaits t p out) (endsWhere h p)
+  unfolding endsWhere asWait
+  matches-end p out = record {
+    priorities = A .priorities;
+    kinds = A .kinds;
+    owner = A .owner;
+    wait = λ i. by-test (λ (w : Option Begun). asWait w ≡ waitOf (endWaits t p out) i) (p i)
+        (λ e. sym (wait-ended t p out i ∙ rw e refl)) (λ e. A .wait i ∙ sym (wait-ended t p out i ∙ rw e refl));
+    order = ap (keep (λ i. not (p i))) (A .order);
+  }
+
+  -- "Each wait begun with time t ends at the t-th tick after it."
+  matches-tick : (out : ℕ → ℕ) → Matches (ageAll (endWaits t (due t) out)) (ticked h)
+  unfolding ticked asWait age
+  matches-tick out = record {
+    priorities = A .priorities;
+    kinds = A .kinds;
+    owner = A .owner;
+    wait = λ i. ap (λ b. asWait (cond b none (oneMore (h .wait i)))) (ap (λ f. f i) due-told)
+        ∙ (by-test (λ (w : Option Begun). asWait w ≡ age (cond (due t i) none (waitOf t i))) (due t i)
+        (λ e. rw e refl) (λ e. rw e (more-less (h .wait i) ∙ ap age (A .wait i)))
+        ∙ sym (List·getD-map age (putWhere (due t) (λ j. none) (t .waits)) i none ∙ ap age (wait-ended t (due t) out i)));
+    order = ap (λ p. keep (λ i. not (p i)) (h .order)) due-told ∙ ap (keep (λ i. not (due t i))) (A .order);
+  }
+
+-- a state in which the task that runs is named
+module _ (h : Told) where
+  abbrev Named : State → Type 0
+  Named s = Agrees s (nowRuns h (s .running))
+
+  module _ (s : State) (A : Matches (s .tables) h) (depth : h .depth ≡ s .hold) (started : h .started ≡ s .started) where
+    placed-named : (r : Option ℕ) (l : List ℕ) → Named (placed s r l)
+    placed-named r l = record {
+      tables = matches-beside A r (h .depth) (h .started);
+      runs = refl;
+      depth = depth;
+      started = started;
+    }
+
+    meet-named : (r : Option ℕ) (l : List ℕ) → Named (meet s r l)
+    unfolding meet
+    meet-named r [] = placed-named r []
+    meet-named none (x ∷ l) = placed-named (some x) l
+    meet-named (some r) (x ∷ l) = by-test Named (eqb (s .hold) 0 and ltb (levelOf s x) (levelOf s r)) (λ e. placed-named _ _) (λ e. placed-named _ _)
+
+  -- settling and dispatching change who runs and who is ready, and nothing else
+  finish-named : (before : State) (e : Effect) → Matches (e .state .tables) h → h .depth ≡ e .state .hold → h .started ≡ e .state .started → Named (finish before e)
+  unfolding finish dispatch
+  finish-named before e A d b = by-test Named (e .state .started) (λ q. meet-named (settle (levelOf before) (e .state) (e .woken)) A d b _ _) (λ q. placed-named (e .state) A d b _ _)
+
+abbrev pub eventOf : Step → Answer → Event
+eventOf x a = record { made = x; number = a .number; value = a .value; run = a .run }
+
+module _ (s : State) (h : Told) (I : Inv s) (A : Agrees s h) where
+  abbrev AsTold : Step → Answer → Type 0
+  AsTold x a = Agrees (a .state) (observe h (eventOf x a))
+
+  -- a refused step names the running task again
+  again : (x : Step) (k v : ℕ) (r : Option ℕ) → 1 < k → r ≡ s .running → AsTold x (record { state = s; number = k; value = v; run = r })
+  unfolding observe
+  again x k v r above e = rw (lt-leb k 1 above, e) (placed-named h s (A .tables) (A .depth) (A .started) (s .running) (s .ready))
+
+  abbrev After : Step → Effect → Type 0
+  After x e = AsTold x (accepted (finish s e) (e .number) (e .value))
+
+  -- an accepted step tells g
+  tells-by : (x : Step) (e : Effect) (g : Told) → leb (e .number) 1 ≡ true → tells h x (e .number) ≡ g → Matches (e .state .tables) g
+      → g .depth ≡ e .state .hold → g .started ≡ e .state .started → After x e
+  unfolding observe
+  tells-by x e g low q T d b = rw (low, q) (finish-named g s e T d b)
+
+  -- the caller begins to wait
+  wait-told : (x : Step) (a : Awaited) (t r links : ℕ) → s .running ≡ some r → tells h x 1 ≡ begins h a t (h .runs) → After x (callerWaits s r a t links)
+  unfolding callerWaits begins
+  wait-told x a t r links run q = tells-by x (callerWaits s r a t links) (begins h a t (some r)) refl (q ∙ ap (begins h a t) (A .runs ∙ run))
+      (matches-begin (A .tables) r a t (omega (arith, I .facts .wait-column, caller-in s I r run))) (A .depth) (A .started)
+
+  lock-told : (m t r : ℕ) (o : Option ℕ) → s .running ≡ some r → m < mutexes (s .tables) → After (lock m t) (lockBy s m t r o)
+  unfolding lockBy tells
+  lock-told m t r none run low = tells-by (lock m t) (lockBy s m t r none) (toldOwner h m (some r)) refl (ap (toldOwner h m) (A .runs ∙ run))
+      (matches-give (A .tables) m (some r) low) (A .depth) (A .started)
+  lock-told m t r (some o) run low = wait-told (lock m t) (mutexOf m) t r (linksOf (s .tables) r m) run refl
+
+  unlock-told : (m : ℕ) (o : Option ℕ) → toldBest h (mutexOf m) ≡ o → m < mutexes (s .tables) → After (unlock m) (passOn s m o)
+  unfolding passOn tells endsOf endsWhere
+  unlock-told m none e low = tells-by (unlock m) (passOn s m none) (toldOwner h m none) refl (ap (λ w. toldOwner (endsOf h w) m w) e)
+      (matches-give (A .tables) m none low) (A .depth) (A .started)
+  unlock-told m (some w) e low = tells-by (unlock m) (passOn s m (some w)) (toldOwner (endsWhere h (eqb w)) m (some w)) refl (ap (λ w. toldOwner (endsOf h w) m w) e)
+      (matches-give (matches-end (A .tables) (eqb w) (λ i. granted)) m (some w) low) (A .depth) (A .started)
+
+  post-told : (k : ℕ) (o : Option ℕ) → toldBest h (semOf k) ≡ o → After (post k) (credit s k o)
+  unfolding credit tells endsOf endsWhere
+  post-told k none e = tells-by (post k) (credit s k none) h refl (ap (endsOf h) e) (matches-sems (A .tables) _ _) (A .depth) (A .started)
+  post-told k (some w) e = tells-by (post k) (credit s k (some w)) (endsWhere h (eqb w)) refl (ap (endsOf h) e)
+      (matches-end (A .tables) (eqb w) (λ i. granted)) (A .depth) (A .started)
+
+  pend-told : (k t r : ℕ) → s .running ≡ some r → After (pend k t) (pendBy s k t r)
+  unfolding pendBy tells
+  pend-told k t r run = by-test (After (pend k t)) (noCredit s k) (λ e. wait-told (pend k t) (semOf k) t r 0 run refl)
+      (λ e. tells-by (pend k t) (done (withTables s (setCount (s .tables) k (countOf (s .tables) k - 1))) [] 0) h refl refl (matches-sems (A .tables) _ _) (A .depth) (A .started))
+
+  -- a step with a caller
+  called-told : (x : Step) (o : Option ℕ) (f : ℕ → Effect) → not (someb o) ≡ false → ((r : ℕ) → o ≡ some r → After x (f r)) → After x (called s o f)
+  unfolding called someb
+  called-told x none f e g = absurd (clash refl e)
+  called-told x (some r) f e g = g r refl
+
+  accept-told : (x : Step) → firstRow (refusals s x) ≡ none → After x (effect s x)
+  unfolding effect refusals tells flushOf tickOf yieldBy endsWhere ticked
+  accept-told (task p) e = tells-by (task p) (effect s (task p)) (tells h (task p) 0) refl refl (matches-task (A .tables) p 0) (A .depth) (A .started)
+  accept-told (mutex k) e = tells-by (mutex k) (effect s (mutex k)) (tells h (mutex k) 0) refl refl (matches-mutex (A .tables) k 0) (A .depth) (A .started)
+  accept-told (sem count max) e = tells-by (sem count max) (effect s (sem count max)) h refl refl (matches-sems (A .tables) _ _) (A .depth) (A .started)
+  accept-told start e = tells-by start (effect s start) (tells h start 0) refl refl (matches-beside (A .tables) _ _ _) (A .depth) refl
+  accept-told (lock m t) e =
+      let b = passed _ _ (passed _ _ e .1) in
+      let c = passed _ _ (b .1) in
+      called-told (lock m t) (s .running) _ (b .0) (λ r run. lock-told m t r (ownerOf (s .tables) m) run (leb-false (mutexes (s .tables)) m (c .0)))
+  accept-told (unlock m) e = unlock-told m (bestWaiter (s .tables) (mutexOf m)) (best-told (A .tables) (I .facts) (mutexOf m))
+      (leb-false (mutexes (s .tables)) m (passed _ _ (passed _ _ (passed _ _ e .1) .1) .0))
+  accept-told (pend k t) e = called-told (pend k t) (s .running) _ (passed _ _ (passed _ _ e .1) .0) (pend-told k t)
+  accept-told (post k) e = post-told k (bestWaiter (s .tables) (semOf k)) (best-told (A .tables) (I .facts) (semOf k))
+  accept-told (flush k) e = tells-by (flush k) (flushOf s k) (endsWhere h (awaits (s .tables) (semOf k))) refl (ap (endsWhere h) (for-told (A .tables) (semOf k)))
+      (matches-end (A .tables) (awaits (s .tables) (semOf k)) (λ i. flushed)) (A .depth) (A .started)
+  accept-told (sleep t) e = called-told (sleep t) (s .running) _ (passed _ _ (passed _ _ e .1) .0) (λ r run. wait-told (sleep t) time t r 0 run refl)
+  accept-told yield e = called-told yield (s .running) _ (passed _ _ (passed _ _ e .1) .0) (λ r run. tells-by yield (yieldBy s r) h refl refl (A .tables) (A .depth) (A .started))
+  accept-told hold e = tells-by hold (effect s hold) (tells h hold 0) refl refl (matches-beside (A .tables) _ _ _) (ap (λ n. n + 1) (A .depth)) (A .started)
+  accept-told free e = tells-by free (effect s free) (tells h free 0) refl refl (matches-beside (A .tables) _ _ _) (ap (λ n. n - 1) (A .depth)) (A .started)
+  accept-told tick e = tells-by tick (tickOf s) (ticked h) refl refl (matches-tick (A .tables) _) (A .depth) (A .started)
+  accept-told (level i) e = tells-by (level i) (effect s (level i)) h refl refl (A .tables) (A .depth) (A .started)
+  accept-told (outcome i) e = tells-by (outcome i) (effect s (outcome i)) h refl refl (A .tables) (A .depth) (A .started)
+
+  -- after every call the state is as told
+  pub call-agrees : (c : Call) → AsTold (c .made) (call s c)
+  call-agrees c = call-by (AsTold (c .made)) s c (step-by (AsTold (c .made)) s (c .made)
+      (λ r e. again (c .made) (r .number) (r .value) (s .running) (refused-above (r .number) (refused-number s (c .made) r e)) refl)
+      (accept-told (c .made)) (λ e. absurd (clash (inv-sound s I) e)))
+      (again (c .made) 8 0 (standing s) (omega arith) (sound-stands s I))

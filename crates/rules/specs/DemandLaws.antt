@@ -1,0 +1,156 @@
+-- Demand 3 holds: what is due of the history, read off from a sound state that agrees with it.
+use mathlib.Core.Path.{_≡_, refl, ap, sym, _∙_, subst}
+use mathlib.Core.List.{List, [], _∷_}
+use mathlib.Core.Bool.{true, cond}
+use mathlib.Core.Logic.{_⊎_, inl, inr}
+use mathlib.Core.Option.{Option, none, some}
+use Prim.Native.Nat.{ℕ, _≤_, _<_}
+use native.Mathlib.Omega.{arith}
+use lib.Dec.{eqb}
+use lib.ListN.{length, getD}
+use borrow.Author.Tests.{eqb-true, le-leb, lt-leb, eq-eqb}
+use Rattle.lists.specs.Count.{occ}
+use Rattle.lists.specs.TestLaws.{which, by-test, none-some, some-same}
+use Rattle.lists.specs.CountLaws.{occ-opt-other, below-in}
+use Rattle.chains.specs.Chain.{From, here, on, Ended}
+use Rattle.chains.specs.ChainLaws.{no-ring, from-some}
+use Rattle.chains.specs.LeastLaws.{leading-low, leading-att}
+use Rattle.rules.specs.Sizes.{inheriting}
+use Rattle.rules.specs.Tables.{tasks}
+use Rattle.rules.specs.Levels.{andThen}
+use Rattle.rules.specs.State.{State, fresh, levelOf}
+use Rattle.rules.specs.Step.{level}
+use Rattle.rules.specs.Effect.{done, effect}
+use Rattle.rules.specs.Settle.{finish}
+use Rattle.rules.specs.Refusal.{refusals, firstRow}
+use Rattle.rules.specs.Sound.{waitCount, soundb}
+use Rattle.rules.specs.Answer.{Answer, accepted, decide, stepSound, step}
+use Rattle.rules.specs.Log.{logLine, withRoom, Call, inRoom, call}
+use Rattle.rules.specs.Invariant.{Started, Inv}
+use Rattle.rules.specs.LevelLaws.{lends-ended}
+use Rattle.rules.specs.StepLaws.{caller-in, step-inv, fresh-inv}
+use Rattle.rules.specs.SoundLaws.{inv-sound}
+use Rattle.rules.specs.History.{Told, nothingTold, tasksMade, ownPriority, begunMutex, toldNext, toldLends, toldLevel, observe, toldFrom, told}
+use Rattle.rules.specs.Demand.{WaitsFor, LendsTo, Leads, to-owner, through, Row, Ready, MostUrgent, levelCall, Fits, Demand, events, after, Demand-3}
+use Rattle.rules.specs.RefusalLaws.{call-by}
+use Rattle.rules.specs.AgreeLaws.{asWait, Agrees, fresh-agrees, next-told, lends-told, level-told, eventOf, call-agrees}
+
+-- a call keeps a sound state sound
+pub call-inv : (s : State) → Inv s → (c : Call) → Inv ((call s c) .state)
+unfolding step
+call-inv s I c = call-by (λ a. Inv (a .state)) s c (by-test (λ (a : Answer). Inv (a .state)) (soundb s) (λ e. step-inv s I (c .made)) (λ e. I)) I
+
+-- whom a wait leads to, in the words of demand 3 and as the next on a chain
+then-to : (o : Option ℕ) (f : ℕ → Option ℕ) (m j : ℕ) → o ≡ some m → f m ≡ some j → andThen o f ≡ some j
+unfolding andThen
+then-to o f m j e q = rw e q
+
+module _ (h : Told) where
+  waits-next : (i j : ℕ) → WaitsFor h i j → toldNext h i ≡ some j
+  unfolding toldNext
+  waits-next i j w = then-to (begunMutex (h .wait i)) (h .owner) (w .0) j (w .1) (w .2)
+
+  lends-next : (i j : ℕ) → LendsTo h i j → toldLends h i ≡ some j
+  unfolding toldLends
+  lends-next i j w = then-to (begunMutex (h .wait i)) _ (w .0) j (w .1) (rw (eq-eqb (getD (h .kinds) (w .0) 0) inheriting (w .2)) (w .3))
+
+  next-lends : (i j : ℕ) → toldLends h i ≡ some j → LendsTo h i j
+  unfolding toldLends andThen
+  next-lends i j e = go (begunMutex (h .wait i)) refl e
+    where
+      heir : ℕ → Option ℕ
+      heir m = cond (eqb (getD (h .kinds) m 0) inheriting) (h .owner m) none
+
+      go : (o : Option ℕ) → begunMutex (h .wait i) ≡ o → andThen o heir ≡ some j → LendsTo h i j
+      go none q e = none-some refl e
+      go (some m) q e = elim (which (eqb (getD (h .kinds) m 0) inheriting)) [
+        | inl t ↦ (m, q, eqb-true (getD (h .kinds) m 0) inheriting t, rw t at e)
+        | inr t ↦ none-some refl (rw t at e)
+      ]
+
+  leads-from : {j i : ℕ} → Leads h j i → From (toldLends h) (some j) i
+  leads-from (to-owner {i = j} {j = i} l) = on {i = j} {k = i} (rw (lends-next j i l) here)
+  leads-from (through {i = i} {j = j} {k = k} l g) = on {i = i} {k = k} (rw (lends-next i j l) (leads-from g))
+
+  from-leads : {o : Option ℕ} {i : ℕ} → From (toldLends h) o i → (j : ℕ) → o ≡ some j → (j ≡ i) ⊎ Leads h j i
+  from-leads here j e = inl (sym (some-same e))
+  from-leads (on {i = k} {k = i} g) j e = let r = from-some g in inr (subst (λ z. Leads h z i) (some-same e) (elim (from-leads g (r .0) (r .1)) [
+    | inl p ↦ to-owner (next-lends k i (r .1 ∙ ap some p))
+    | inr q ↦ through (next-lends k (r .0) (r .1)) q
+  ]))
+
+  row-from : (x : ℕ) (l : List ℕ) (y : ℕ) → Row h x l y → From (toldNext h) (toldNext h x) y
+  row-from x [] y w = rw (waits-next x y w) here
+  row-from x (z ∷ l) y w = rw (waits-next x z (w .0)) (on {i = z} {k = y} (row-from z l y (w .1)))
+
+-- `level` is accepted for a task of a sound state, and its value is the level
+level-answer : (s : State) → Inv s → (i : ℕ) → i < tasks (s .tables) → step s (level i) ≡ accepted (finish s (done s [] (levelOf s i))) 0 (levelOf s i)
+unfolding step stepSound decide refusals firstRow effect
+level-answer s I i h = rw (inv-sound s I, lt-leb (tasks (s .tables)) i h) refl
+
+module _ (s : State) (h : Told) (I : Inv s) (A : Agrees s h) where
+  as-many : tasksMade h ≡ tasks (s .tables)
+  as-many = ap length (A .tables .priorities)
+
+  level-call : (i : ℕ) → i < tasksMade h → (room : Option ℕ) → Fits room (call s (levelCall i none))
+      → call s (levelCall i room) ≡ accepted (finish s (done s [] (levelOf s i))) 0 (levelOf s i)
+  unfolding call inRoom withRoom
+  level-call i low none fits = level-answer s I i (omega (arith, as-many))
+  level-call i low (some room) fits = rw (le-leb (length (logLine (step s (level i)))) room fits) (level-answer s I i (omega (arith, as-many)))
+
+  most-urgent : (i : ℕ) → i < tasksMade h → MostUrgent h i (toldLevel h i)
+  unfolding toldLevel
+  most-urgent i low = record {
+    own = leading-low (ownPriority h) chains i i low here;
+    low = λ j q g. leading-low (ownPriority h) chains i j q (leads-from h g);
+    one = let a = leading-att (ownPriority h) chains i low in elim (from-leads h (a .2) (a .0) refl) [
+      | inl e ↦ inl (a .3 ∙ ap (ownPriority h) e)
+      | inr g ↦ inr (a .0, a .1, g, a .3)
+    ];
+  }
+    where
+      chains : Ended (tasksMade h) (toldLends h)
+      chains = subst (λ n. Ended n (toldLends h)) (sym as-many) (subst (Ended (tasks (s .tables))) (sym (lends-told (A .tables))) (lends-ended (s .tables) (I .facts)))
+
+  -- a task that neither runs nor waits stands in the ready order
+  ready-in : (i : ℕ) → Ready h i → 1 ≤ occ i (s .ready)
+  unfolding occ asWait waitCount
+  ready-in i r = omega (
+    arith,
+    I .places i,
+    below-in i (tasks (s .tables)) (omega (arith, as-many, r .exists)),
+    I .facts .waiting i,
+    ap waitCount (sym (A .tables .wait i) ∙ ap asWait (r .not-waiting)),
+    occ-opt-other (s .running) i (λ e. r .not-running (A .runs ∙ e)),
+  )
+
+  demand : h .started ≡ true → Demand h (call s)
+  demand began = record {
+    levels = λ i low room fits. subst (λ a. (a .number ≡ 0) × MostUrgent h i (a .value)) (sym (level-call i low room fits))
+        (refl, subst (MostUrgent h i) (ap (λ f. f i) (level-told (A .tables))) (most-urgent i low));
+    no-ring = λ x l w. no-ring (I .facts .ends x .1) (subst (λ f. From f (f x) x) (next-told (A .tables)) (row-from h x l x w));
+    runs = λ i r. (let k = S .runs i (ready-in i r) in (k .0, A .runs ∙ k .1));
+    urgent = λ z i r q e. omega (
+      arith,
+      S .urgent (sym (A .depth) ∙ z) i r (ready-in i q) (sym (A .runs) ∙ e),
+      value i (q .exists),
+      value r (omega (arith, as-many, caller-in s I r (sym (A .runs) ∙ e))),
+    );
+  }
+    where
+      S : Started s
+      S = I .when-started (sym (A .started) ∙ began)
+
+      value : (i : ℕ) → i < tasksMade h → (call s (levelCall i none)) .value ≡ levelOf s i
+      value i low = ap (λ a. a .value) (level-call i low none tt)
+
+-- over the list: the state stays sound and agrees with what is told
+list-sound : (cs : List Call) (s : State) (h : Told) → Inv s → Agrees s h → Inv (after s cs) × Agrees (after s cs) (toldFrom h (events s cs))
+unfolding after events toldFrom
+list-sound [] s h I A = (I, A)
+list-sound (c ∷ cs) s h I A = list-sound cs ((call s c) .state) (observe h (eventOf (c .made) (call s c))) (call-inv s I c) (call-agrees s h I A c)
+
+-- demand 3, over every list of calls from a fresh state with an accepted start
+pub demand-3 : Demand-3
+unfolding told
+demand-3 cs = let r = list-sound cs fresh nothingTold fresh-inv fresh-agrees in demand (after fresh cs) (told (events fresh cs)) (r .0) (r .1)
