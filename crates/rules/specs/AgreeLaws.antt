@@ -10,21 +10,22 @@ use native.Mathlib.Decide.{ℕ-discrete}
 use lib.Dec.{ltb, leb, eqb}
 use lib.ListN.{length, getD, List·getD-map}
 use lib.Seq.{getD-set-same, getD-set-other}
-use borrow.Author.Tests.{leb-false, lt-leb, eq-eqb, ne-eqb}
+use borrow.Author.Tests.{leb-false, not-false, lt-leb, eq-eqb, ne-eqb}
 use Rattle.lists.specs.Test.{_and_, someb, holds}
-use Rattle.lists.specs.Order.{keep, leastFirst}
+use Rattle.lists.specs.Order.{keep, leastFirst, before}
 use Rattle.lists.specs.Table.{putWhere}
 use Rattle.lists.specs.TestLaws.{which, clash, by-test}
 use Rattle.lists.specs.TableLaws.{snoc-default}
+use Rattle.chains.specs.Chain.{on}
 use Rattle.chains.specs.Least.{leastLeading}
-use Rattle.rules.specs.Sizes.{inheriting, forever, granted, flushed}
+use Rattle.rules.specs.Sizes.{kinds, inheriting, forever, granted, flushed}
 use Rattle.rules.specs.Tables.{Awaited, mutexOf, semOf, time, Wait, Tables, withCounts, withMaxima, tasks, mutexes, priorityOf, waitOf, kindOf, ownerOf, countOf}
 use Rattle.rules.specs.Levels.{mutexAwaited, andThen, next, heirOf, lends, levelIn, linksOf, waitIsFor, awaits, waitersOf, bestWaiter}
 use Rattle.rules.specs.State.{State, fresh, withTables, placed, levelOf}
 use Rattle.rules.specs.Step.{Step, task, mutex, sem, start, lock, unlock, pend, post, flush, sleep, yield, hold, free, tick, level, outcome}
 use Rattle.rules.specs.Effect.{Effect, done, addTask, addMutex, give, setCount, beginWait, endWaits, ticksOf, waitFor, callerWaits, lockBy, passOn, pendBy, credit, flushOf, isDue, due, lessOne, age, ageAll, tickOf, yieldBy, called, effect}
 use Rattle.rules.specs.Settle.{settle, meet, dispatch, finish}
-use Rattle.rules.specs.Refusal.{noCredit, refusals, firstRow}
+use Rattle.rules.specs.Refusal.{ofCaller, noCredit, callerOwns, refusals, firstRow}
 use Rattle.rules.specs.Answer.{Answer, accepted, standing}
 use Rattle.rules.specs.Log.{Call, call}
 use Rattle.rules.specs.Invariant.{Facts, Inv}
@@ -32,7 +33,7 @@ use Rattle.rules.specs.FactsLaws.{wait-ended}
 use Rattle.rules.specs.WaiterLaws.{best-is-least}
 use Rattle.rules.specs.StepLaws.{passed, caller-in}
 use Rattle.rules.specs.SoundLaws.{inv-sound}
-use Rattle.rules.specs.History.{Event, Begun, Told, nothingTold, begunMutex, toldNext, toldLends, toldLevel, begunFor, toldBest, toldOwner, begins, endsWhere, endsOf, timeUp, oneMore, ticked, tells, nowRuns, observe}
+use Rattle.rules.specs.History.{Event, Begun, Told, nothingTold, begunMutex, toldNext, toldLends, toldLevel, begunFor, toldBest, toldOwner, begins, endsWhere, endsOf, timeUp, oneMore, ticked, runnerOwns, handsOver, tells, nowRuns, observe}
 use Rattle.rules.specs.RefusalLaws.{refused-number, refused-above, step-by, call-by, sound-stands}
 
 -- a wait as the list tells it, in the words of the tables
@@ -276,12 +277,16 @@ module _ (s : State) (h : Told) (I : Inv s) (A : Agrees s h) where
       (matches-give (A .tables) m (some r) low) (A .depth) (A .started)
   lock-told m t r (some o) run low = wait-told (lock m t) (mutexOf m) t r (linksOf (s .tables) r m) run refl
 
-  unlock-told : (m : ℕ) (o : Option ℕ) → toldBest h (mutexOf m) ≡ o → m < mutexes (s .tables) → After (unlock m) (passOn s m o)
+  unlock-told : (m : ℕ) (o : Option ℕ) → runnerOwns h m ≡ true → toldBest h (mutexOf m) ≡ o → m < mutexes (s .tables) → After (unlock m) (passOn s m o)
   unfolding passOn tells endsOf endsWhere
-  unlock-told m none e low = tells-by (unlock m) (passOn s m none) (toldOwner h m none) refl (ap (λ w. toldOwner (endsOf h w) m w) e)
+  unlock-told m none own e low = tells-by (unlock m) (passOn s m none) (toldOwner h m none) refl (rw own (ap (handsOver h m) e))
       (matches-give (A .tables) m none low) (A .depth) (A .started)
-  unlock-told m (some w) e low = tells-by (unlock m) (passOn s m (some w)) (toldOwner (endsWhere h (eqb w)) m (some w)) refl (ap (λ w. toldOwner (endsOf h w) m w) e)
+  unlock-told m (some w) own e low = tells-by (unlock m) (passOn s m (some w)) (toldOwner (endsWhere h (eqb w)) m (some w)) refl (rw own (ap (handsOver h m) e))
       (matches-give (matches-end (A .tables) (eqb w) (λ i. granted)) m (some w) low) (A .depth) (A .started)
+
+  -- the caller that the rules see owns m as told
+  owns-told : (m : ℕ) → not (callerOwns s m) ≡ false → runnerOwns h m ≡ true
+  owns-told m e = ap (λ r. ofCaller r (holds (h .owner m))) (A .runs) ∙ (ap (λ o. ofCaller (s .running) (holds o)) (A .tables .owner m) ∙ not-false (callerOwns s m) e)
 
   post-told : (k : ℕ) (o : Option ℕ) → toldBest h (semOf k) ≡ o → After (post k) (credit s k o)
   unfolding credit tells endsOf endsWhere
@@ -310,8 +315,10 @@ module _ (s : State) (h : Told) (I : Inv s) (A : Agrees s h) where
       let b = passed _ _ (passed _ _ e .1) in
       let c = passed _ _ (b .1) in
       called-told (lock m t) (s .running) _ (b .0) (λ r run. lock-told m t r (ownerOf (s .tables) m) run (leb-false (mutexes (s .tables)) m (c .0)))
-  accept-told (unlock m) e = unlock-told m (bestWaiter (s .tables) (mutexOf m)) (best-told (A .tables) (I .facts) (mutexOf m))
-      (leb-false (mutexes (s .tables)) m (passed _ _ (passed _ _ (passed _ _ e .1) .1) .0))
+  accept-told (unlock m) e =
+      let c = passed _ _ (passed _ _ (passed _ _ e .1) .1) in
+      unlock-told m (bestWaiter (s .tables) (mutexOf m)) (owns-told m (passed _ _ (c .1) .0)) (best-told (A .tables) (I .facts) (mutexOf m))
+      (leb-false (mutexes (s .tables)) m (c .0))
   accept-told (pend k t) e = called-told (pend k t) (s .running) _ (passed _ _ (passed _ _ e .1) .0) (pend-told k t)
   accept-told (post k) e = post-told k (bestWaiter (s .tables) (semOf k)) (best-told (A .tables) (I .facts) (semOf k))
   accept-told (flush k) e = tells-by (flush k) (flushOf s k) (endsWhere h (awaits (s .tables) (semOf k))) refl (ap (endsWhere h) (for-told (A .tables) (semOf k)))

@@ -5,7 +5,7 @@ use mathlib.Core.Option.{Option, none, some}
 use Prim.Native.Nat.{ℕ, _+_, _-_}
 use lib.Dec.{leb, eqb}
 use lib.ListN.{length, getD}
-use Rattle.lists.specs.Test.{_and_}
+use Rattle.lists.specs.Test.{_and_, holds}
 use Rattle.lists.specs.Order.{keep, leastFirst}
 use Rattle.chains.specs.Chain.{on}
 use Rattle.chains.specs.Least.{leastLeading}
@@ -13,6 +13,7 @@ use Rattle.rules.specs.Sizes.{kinds, inheriting, forever}
 use Rattle.rules.specs.Tables.{Awaited, mutexOf, semOf, time}
 use Rattle.rules.specs.Levels.{mutexIn, andThen, sameAwaited}
 use Rattle.rules.specs.Step.{Step, task, mutex, sem, start, lock, unlock, pend, post, flush, sleep, yield, hold, free, tick, level, outcome}
+use Rattle.rules.specs.Refusal.{ofCaller}
 
 -- an event: the step, the answer's number and value, and the task to run
 pub record Event : Type 0 where
@@ -115,6 +116,14 @@ oneMore (some b) = some (record { on = b .on; time = b .time; ticks = b .ticks +
 unfoldable pub ticked : Told → Told
 ticked h = toldWaits h (λ i. cond (timeUp (h .wait i)) none (oneMore (h .wait i))) (keep (λ i. not (timeUp (h .wait i))) (h .order))
 
+-- the task that ran owns m: only "its own accepted unlock" ends its ownership
+abbrev pub runnerOwns : Told → ℕ → Bool
+runnerOwns h m = ofCaller (h .runs) (holds (h .owner m))
+
+-- m goes to the best waiter, whose wait ends, or to nobody
+abbrev pub handsOver : Told → ℕ → Option ℕ → Told
+handsOver h m w = toldOwner (endsOf h w) m w
+
 -- what an accepted step tells, by its answer's number
 unfoldable pub tells : Told → Step → ℕ → Told
 tells h (task p) k = record { priorities = h .priorities ++ (p ∷ []); kinds = h .kinds; owner = h .owner; wait = h .wait; order = h .order; runs = h .runs; depth = h .depth; started = h .started }
@@ -122,7 +131,7 @@ tells h (mutex q) k = record { priorities = h .priorities; kinds = h .kinds ++ (
 tells h (sem count max) k = h
 tells h start k = record { priorities = h .priorities; kinds = h .kinds; owner = h .owner; wait = h .wait; order = h .order; runs = h .runs; depth = h .depth; started = true }
 tells h (lock m t) k = cond (eqb k 1) (begins h (mutexOf m) t (h .runs)) (toldOwner h m (h .runs))
-tells h (unlock m) k = let w = toldBest h (mutexOf m) in toldOwner (endsOf h w) m w
+tells h (unlock m) k = cond (runnerOwns h m) (handsOver h m (toldBest h (mutexOf m))) h
 tells h (pend j t) k = cond (eqb k 1) (begins h (semOf j) t (h .runs)) h
 tells h (post j) k = endsOf h (toldBest h (semOf j))
 tells h (flush j) k = endsWhere h (λ i. begunFor (h .wait i) (semOf j))
