@@ -13,7 +13,7 @@ use Rattle.lists.specs.Test.{_and_}
 use Rattle.lists.specs.Count.{eqn, occ, member, below}
 use Rattle.lists.specs.Order.{keep, upTo, byId, place, insertTail, insertHead, insertAll, stable, Asc, ascb, Ties, tiesb, leastOf, leastFirst, before, inside}
 use Rattle.lists.specs.TestLaws.{which, clash, by-test, and-l, and-r, true-and, or-true, or-l, or-r, none-some}
-use Rattle.lists.specs.CountLaws.{eqn-at, eqn-other, occ-append, occ-head, below-out, below-le, below-suc}
+use Rattle.lists.specs.CountLaws.{eqn-at, eqn-other, occ-append, occ-head, below-out, in-below, below-le, below-suc}
 
 pub occ-place : (p : ℕ → Bool) (x y : ℕ) (l : List ℕ) → occ y (place p x l) ≡ eqn x y + occ y l
 unfolding occ place
@@ -96,7 +96,7 @@ pub stable-asc : (f : ℕ → ℕ) (l : List ℕ) → Asc f l → stable f l ≡
 unfolding stable occ
 stable-asc f l a = insertAll-asc f l [] a (λ x y m k. absurd (omega arith))
 
-insertAll-append : (f : ℕ → ℕ) (xs ys l : List ℕ) → insertAll f (xs ++ ys) l ≡ insertAll f ys (insertAll f xs l)
+pub insertAll-append : (f : ℕ → ℕ) (xs ys l : List ℕ) → insertAll f (xs ++ ys) l ≡ insertAll f ys (insertAll f xs l)
 unfolding insertAll
 insertAll-append f [] ys l = refl
 insertAll-append f (x ∷ xs) ys l = insertAll-append f xs ys (insertTail f x l)
@@ -277,3 +277,34 @@ pub before-without : (x : ℕ) (l : List ℕ) → occ x (before x l) ≡ 0
 unfolding before occ
 before-without x [] = refl
 before-without x (z ∷ l) = by-test (λ (t : List ℕ). occ x t ≡ 0) (eqb z x) (λ e. refl) (λ e. omega (arith, before-without x l, eqn-other z x (eqb-false z x e)))
+
+-- tests that agree on the list keep the same
+pub keep-ext : (p q : ℕ → Bool) (l : List ℕ) → ((y : ℕ) → 1 ≤ occ y l → p y ≡ q y) → keep p l ≡ keep q l
+unfolding keep occ
+keep-ext p q [] h = refl
+keep-ext p q (x ∷ l) h = rw (h x (occ-head x l), keep-ext p q l (λ y m. h y (omega arith)))
+
+pub byId-ext : (n : ℕ) (p q : ℕ → Bool) → ((i : ℕ) → i < n → p i ≡ q i) → byId n p ≡ byId n q
+unfolding byId
+byId-ext n p q h = keep-ext p q (upTo n) (λ y m. h y (in-below y n (omega (arith, occ-upTo y n))))
+
+pub byId-none : (n : ℕ) (p : ℕ → Bool) → ((i : ℕ) → p i ≡ false) → byId n p ≡ []
+unfolding byId
+byId-none n p h = keep-none p (upTo n) (λ y m. h y)
+
+-- what is kept was there, and passes
+pub keep-in : (p : ℕ → Bool) (y : ℕ) (l : List ℕ) → 1 ≤ occ y (keep p l) → (p y ≡ true) × (1 ≤ occ y l)
+keep-in p y l h = elim (which (p y)) [
+  | inl e ↦ (e, omega (arith, occ-kept p y l e))
+  | inr e ↦ absurd (omega (arith, occ-dropped p y l e))
+]
+
+pub asc-keep : (f : ℕ → ℕ) (p : ℕ → Bool) (l : List ℕ) → Asc f l → Asc f (keep p l)
+unfolding keep
+asc-keep f p [] a = tt
+asc-keep f p (x ∷ l) a = by-test (Asc f) (p x) (λ e. ((λ y m. a .0 y (keep-in p y l m .1)), asc-keep f p l (a .1))) (λ e. asc-keep f p l (a .1))
+
+-- in front of what is inserted, an ascending list stays
+pub stable-append : (f : ℕ → ℕ) (l xs : List ℕ) → Asc f l → stable f (l ++ xs) ≡ insertAll f xs l
+unfolding stable
+stable-append f l xs a = insertAll-append f l xs [] ∙ ap (insertAll f xs) (stable-asc f l a)

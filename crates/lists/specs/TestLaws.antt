@@ -1,5 +1,5 @@
 -- Laws of tests: to take a conjunction apart, to put it together, and to go by the two answers of a test.
-use mathlib.Core.Path.{_≡_, refl, ap}
+use mathlib.Core.Path.{_≡_, refl, ap, sym, _∙_}
 use mathlib.Core.Bool.{Bool, true, false, cond}
 use mathlib.Core.Logic.{_⊎_, inl, inr}
 use mathlib.Core.Option.{Option, none, some}
@@ -103,3 +103,26 @@ holds-true (some k) i e = ap some (eqb-true k i e)
 pub true-holds : (o : Option ℕ) (i : ℕ) → o ≡ some i → holds o i ≡ true
 unfolding holds
 true-holds o i e = rw e (eq-eqb i i refl)
+
+-- two tests are one where each follows from the other
+pub same-test : (a b : Bool) → (a ≡ true → b ≡ true) → (b ≡ true → a ≡ true) → a ≡ b
+same-test true b f g = sym (f refl)
+same-test false true f g = absurd (clash (g refl) refl)
+same-test false false f g = refl
+
+-- a second part need agree only where the first holds
+pub and-same : (a b c : Bool) → (a ≡ true → b ≡ c) → a and b ≡ a and c
+unfolding _and_
+and-same true b c h = h refl
+and-same false b c h = refl
+
+pub all-same : (n m : ℕ) (p q : ℕ → Bool) → n ≡ m → ((i : ℕ) → i < n → p i ≡ q i) → allb n p ≡ allb m q
+all-same n m p q e h = same-test _ _
+    (λ u. true-all m q (λ i k. (let r : i < n = omega arith in sym (h i r) ∙ all-true n p u i r)))
+    (λ u. true-all n p (λ i k. h i k ∙ all-true m q u i (omega arith)))
+
+-- two tests of every number below n
+pub all-and : (n : ℕ) (p q : ℕ → Bool) → allb n (λ i. p i and q i) ≡ allb n p and allb n q
+all-and n p q = same-test _ _
+    (λ u. true-and _ _ (true-all n p (λ i h. and-l _ _ (all-true n _ u i h))) (true-all n q (λ i h. and-r _ _ (all-true n _ u i h))))
+    (λ u. true-all n _ (λ i h. true-and _ _ (all-true n p (and-l _ _ u) i h) (all-true n q (and-r _ _ u) i h)))

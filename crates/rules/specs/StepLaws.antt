@@ -38,18 +38,18 @@ unfolding firstRow
 passed r rs e = elim (which (r .when)) [ inl q ↦ none-some (rw q at e) refl | inr q ↦ (q, rw q at e) ]
 
 -- the ticks left of a wait that may begin; this depends on forever being no number of ticks
-left-mutex : (m t : ℕ) → isWaitingTime t ≡ true → eqb t 0 ≡ false → Left (mutexOf m) (ticksOf t)
+pub left-mutex : (m t : ℕ) → isWaitingTime t ≡ true → eqb t 0 ≡ false → Left (mutexOf m) (ticksOf t)
 unfolding ticksOf
 left-mutex m t e f = elim (which (eqb t forever)) [
   | inl q ↦ rw q tt
   | inr q ↦ rw q (omega (arith, eqb-false t 0 f), elim (or-true _ _ e) [ inl u ↦ leb-true t maxTicks u | inr u ↦ absurd (clash u q) ])
 ]
 
-left-sem : (k t : ℕ) → isWaitingTime t ≡ true → eqb t 0 ≡ false → Left (semOf k) (ticksOf t)
+pub left-sem : (k t : ℕ) → isWaitingTime t ≡ true → eqb t 0 ≡ false → Left (semOf k) (ticksOf t)
 unfolding ticksOf
 left-sem k t e f = left-mutex k t e f
 
-left-sleep : (t : ℕ) → isSleepTime t ≡ true → Left time (ticksOf t)
+pub left-sleep : (t : ℕ) → isSleepTime t ≡ true → Left time (ticksOf t)
 unfolding ticksOf
 left-sleep t e =
     let low = ltb-true 0 t (and-l _ _ e) in
@@ -57,7 +57,7 @@ left-sleep t e =
     rw (ne-eqb t forever (λ q. omega arith)) (low, high)
 
 -- a sleep is for no mutex
-sleep-no-mutex : {A : Type 0} {m : ℕ} → time ≡ mutexOf m → A
+pub sleep-no-mutex : {A : Type 0} {m : ℕ} → time ≡ mutexOf m → A
 sleep-no-mutex q = absurd (let z : _≡_ {A = ℕ} 0 1 = cc in omega arith)
 
 module _ (s : State) (I : Inv s) where
@@ -291,7 +291,7 @@ module _ (s : State) (I : Inv s) where
       (λ h. absurd (omega (arith, I .in-set-up off .hold-0))) (λ e. absurd (clash refl e))
 
 -- the test of the caller who runs
-of-caller : (o : Option ℕ) (p : ℕ → Bool) (r : ℕ) → o ≡ some r → ofCaller o p ≡ p r
+pub of-caller : (o : Option ℕ) (p : ℕ → Bool) (r : ℕ) → o ≡ some r → ofCaller o p ≡ p r
 unfolding ofCaller
 of-caller o p r e = rw e refl
 

@@ -1,0 +1,3 @@
+-- Queues of task ids: the definitions that the contracts cite, and their laws.
+pub mod Queue
+pub mod QueueLaws

@@ -1,0 +1,173 @@
+-- The walks' definitions, step by step as the code takes them.
+use mathlib.Core.Path.{_≡_, refl, ap, sym, _∙_}
+use mathlib.Core.List.{List, [], _∷_}
+use mathlib.Core.Bool.{Bool, true, false}
+use mathlib.Core.Logic.{inl, inr}
+use mathlib.Core.Option.{Option, none, some}
+use Prim.Native.Nat.{ℕ, zero, suc, _+_, _-_, _≤_, _<_, min}
+use native.Mathlib.Omega.{arith}
+use native.Mathlib.Numerals.{add-one}
+use lib.Dec.{eqb}
+use lib.ListN.{length, getD, set}
+use lib.Seq.{set-getD}
+use borrow.Author.Tests.{lt-ltb, eq-eqb, ne-eqb}
+use Rattle.lists.specs.Test.{allb}
+use Rattle.lists.specs.Count.{eqn, occ, member}
+use Rattle.lists.specs.Order.{before}
+use Rattle.lists.specs.TestLaws.{which, clash, by-test, true-and, all-true}
+use Rattle.lists.specs.CountLaws.{eqn-at, eqn-other}
+use Rattle.chains.specs.Chain.{walk, endsb}
+use Rattle.rules.specs.Sizes.{maxTasks}
+use Rattle.walks.specs.Walk.{taskAt, nextIn, lifted, raised, chainFrom}
+use Rattle.walks.specs.WalkLaws.{task-in, task-out, next-in}
+
+walk-le : (next : ℕ → Option ℕ) (f : ℕ) (o : Option ℕ) → length (walk f next o) ≤ f
+unfolding walk
+walk-le next zero o = omega arith
+walk-le next (suc f) none = omega arith
+walk-le next (suc f) (some i) = omega (arith, walk-le next f (next i))
+
+before-le : (x : ℕ) (l : List ℕ) → length (before x l) ≤ length l
+unfolding before
+before-le x [] = omega arith
+before-le x (y ∷ l) = by-test (λ (t : List ℕ). length t ≤ length (y ∷ l)) (eqb y x) (λ e. omega arith) (λ e. omega (arith, before-le x l))
+
+-- the chain from an id: spent fuel, no task, and one task more
+module _ (next : List ℕ) (at : ℕ) where
+  chain-spent : (f : ℕ) → f ≡ 0 → chainFrom next at f ≡ []
+  unfolding walk
+  chain-spent f e = rw e refl
+
+  chain-out : (f : ℕ) → maxTasks ≤ at → chainFrom next at f ≡ []
+  unfolding walk
+  chain-out zero h = refl
+  chain-out (suc f) h = rw (task-out at h) refl
+
+  chain-in : (f : ℕ) → 0 < f → at < maxTasks → chainFrom next at f ≡ at ∷ chainFrom next (getD next at 0) (f - 1)
+  unfolding walk
+  chain-in zero p h = absurd (omega arith)
+  chain-in (suc f) p h =
+      let q : suc f - 1 ≡ f = omega arith in rw (task-in at h, q, next-in next at h) refl
+
+  -- what lift leaves
+  module _ (levels : List ℕ) (p : ℕ) where
+    pub lift-spent : (f : ℕ) → f ≡ 0 → levels ≡ lifted levels p (chainFrom next at f)
+    unfolding lifted
+    lift-spent f e = rw (chain-spent f e) refl
+
+    pub lift-out : (f : ℕ) → maxTasks ≤ at → levels ≡ lifted levels p (chainFrom next at f)
+    unfolding lifted
+    lift-out f h = rw (chain-out f h) refl
+
+    lift-in : (f : ℕ) → 0 < f → at < maxTasks
+        → lifted levels p (chainFrom next at f) ≡ lifted (set levels at (min p (getD levels at 0))) p (chainFrom next (getD next at 0) (f - 1))
+    unfolding lifted
+    lift-in f q h = rw (chain-in f q h) refl
+
+    pub raise-lower : p < getD levels at 0 → set levels at p ≡ set levels at (min p (getD levels at 0))
+    raise-lower h = let e : min p (getD levels at 0) ≡ p = omega arith in rw e refl
+
+    pub raise-not : getD levels at 0 ≤ p → levels ≡ set levels at (min p (getD levels at 0))
+    raise-not h = let e : min p (getD levels at 0) ≡ getD levels at 0 = omega arith in rw e (sym (set-getD levels at 0))
+
+    -- one call: the first task of the chain lifted, then the rest
+    pub lift-on : (l r : List ℕ) (f : ℕ) → 0 < f → at < maxTasks → l ≡ set levels at (min p (getD levels at 0))
+        → r ≡ lifted l p (chainFrom next (getD next at 0) (f - 1)) → r ≡ lifted levels p (chainFrom next at f)
+    lift-on l r f q h e u = u ∙ rw e (sym (lift-in f q h))
+
+  -- what follow finds
+  module _ (caller : ℕ) where
+    pub links-le : (f : ℕ) → length (before caller (chainFrom next at f)) ≤ f
+    links-le f = omega (arith, walk-le (nextIn next) f (taskAt at), before-le caller (chainFrom next at f))
+
+    pub links-spent : (f : ℕ) → f ≡ 0 → 0 ≡ length (before caller (chainFrom next at f))
+    unfolding before
+    links-spent f e = rw (chain-spent f e) refl
+
+    pub ring-spent : (f : ℕ) → f ≡ 0 → false ≡ member caller (chainFrom next at f)
+    unfolding occ
+    ring-spent f e = rw (chain-spent f e) refl
+
+    pub links-out : (f : ℕ) → maxTasks ≤ at → 0 ≡ length (before caller (chainFrom next at f))
+    unfolding before
+    links-out f h = rw (chain-out f h) refl
+
+    pub ring-out : (f : ℕ) → maxTasks ≤ at → false ≡ member caller (chainFrom next at f)
+    unfolding occ
+    ring-out f h = rw (chain-out f h) refl
+
+    module _ (f : ℕ) (left : 0 < f) (task : at < maxTasks) where
+      pub links-here : at ≡ caller → 0 ≡ length (before caller (chainFrom next at f))
+      unfolding before
+      links-here e = rw (chain-in f left task, eq-eqb at caller e) refl
+
+      pub ring-here : at ≡ caller → true ≡ member caller (chainFrom next at f)
+      unfolding occ
+      ring-here e = rw (chain-in f left task) (sym (lt-ltb 0 (eqn at caller + occ caller (chainFrom next (getD next at 0) (f - 1))) (omega (arith, eqn-at at caller e))))
+
+      pub links-on : (at ≡ caller → ⊥) → length (before caller (chainFrom next at f)) ≡ length (before caller (chainFrom next (getD next at 0) (f - 1))) + 1
+      unfolding before
+      links-on n = rw (chain-in f left task, ne-eqb at caller n, add-one) refl
+
+      pub ring-on : (at ≡ caller → ⊥) → member caller (chainFrom next at f) ≡ member caller (chainFrom next (getD next at 0) (f - 1))
+      unfolding occ
+      ring-on n =
+          let q : eqn at caller + occ caller (chainFrom next (getD next at 0) (f - 1)) ≡ occ caller (chainFrom next (getD next at 0) (f - 1)) = omega (arith, eqn-other at caller n) in
+          rw (chain-in f left task, q) refl
+
+  -- whether it ends
+  pub ends-out : (f : ℕ) → maxTasks ≤ at → true ≡ endsb f (nextIn next) (taskAt at)
+  unfolding endsb
+  ends-out zero h = rw (task-out at h) refl
+  ends-out (suc f) h = rw (task-out at h) refl
+
+  pub ends-spent : (f : ℕ) → f ≡ 0 → at < maxTasks → false ≡ endsb f (nextIn next) (taskAt at)
+  unfolding endsb
+  ends-spent f e h = rw (e, task-in at h) refl
+
+  pub ends-in : (f : ℕ) → 0 < f → at < maxTasks
+      → endsb f (nextIn next) (taskAt at) ≡ endsb (f - 1) (nextIn next) (taskAt (getD next at 0))
+  unfolding endsb
+  ends-in zero p h = absurd (omega arith)
+  ends-in (suc f) p h =
+      let q : suc f - 1 ≡ f = omega arith in rw (task-in at h, q, next-in next at h) refl
+
+-- a test of every number below a bound, number by number
+module _ (p : ℕ → Bool) where
+  pub all-none : true ≡ allb 0 p
+  unfolding allb
+  all-none = refl
+
+  pub all-step : (j : ℕ) → true ≡ allb j p → true ≡ p j → true ≡ allb (j + 1) p
+  unfolding allb
+  all-step j e h = rw add-one (sym (true-and (p j) (allb j p) (sym h) (sym e)))
+
+  pub all-done : (j n : ℕ) → n ≡ j → true ≡ allb j p → true ≡ allb n p
+  all-done j n q e = rw q e
+
+  pub all-fails : (j n : ℕ) → j < n → false ≡ p j → false ≡ allb n p
+  all-fails j n h e = elim (which (allb n p)) [ inl t ↦ absurd (clash (all-true n p t j h) (sym e)) | inr t ↦ sym t ]
+
+-- levels task by task
+pub raised-none : (own next : List ℕ) (n : ℕ) → own ≡ raised own next n 0
+unfolding raised
+raised-none own next n = refl
+
+pub raised-step : (own next l m : List ℕ) (n j : ℕ) → l ≡ raised own next n j → m ≡ lifted l (getD own j 0) (chainFrom next j n)
+    → m ≡ raised own next n (j + 1)
+unfolding raised
+raised-step own next l m n j e f = rw (add-one, ← e) f
+
+pub raised-done : (own next l : List ℕ) (n j m : ℕ) → m ≡ j → l ≡ raised own next n j → l ≡ raised own next n m
+raised-done own next l n j m q e = rw q e
+
+-- the chain after i ends, within n
+abbrev pub endsAfter : List ℕ → ℕ → ℕ → Bool
+endsAfter next n i = endsb n (nextIn next) (nextIn next i)
+
+pub ends-read : (next : List ℕ) (n i : ℕ) (r : Bool) → i < maxTasks → r ≡ endsb n (nextIn next) (taskAt (getD next i 0)) → r ≡ endsAfter next n i
+ends-read next n i r h e = e ∙ ap (endsb n (nextIn next)) (sym (next-in next i h))
+
+-- two tables have the same at i
+abbrev pub sameAt : List ℕ → List ℕ → ℕ → Bool
+sameAt a b i = eqb (getD a i 0) (getD b i 0)

@@ -1,0 +1,168 @@
+-- Laws of walks over a table of ids: the levels they leave are the least values that lead to each task.
+use mathlib.Core.Path.{_≡_, refl, ap, sym, _∙_, fun-ext}
+use mathlib.Core.List.{List, [], _∷_}
+use mathlib.Core.Bool.{Bool, false, cond}
+use mathlib.Core.Option.{Option, none, some}
+use Prim.Native.Nat.{ℕ, zero, suc, _+_, _≤_, _<_, min}
+use native.Mathlib.Omega.{arith}
+use native.Mathlib.Decide.{ℕ-discrete, decLt}
+use lib.ListN.{length, getD, set, length-set, List·getD-eq-default}
+use lib.Seq.{getD-set-same, getD-set-other, set-out}
+use borrow.Author.Tests.{lt-ltb, le-ltb}
+use Rattle.lists.specs.Count.{eqn, occ, member}
+use Rattle.lists.specs.TestLaws.{by-test, none-some, some-same}
+use Rattle.lists.specs.CountLaws.{eqn-at, eqn-other}
+use Rattle.chains.specs.Chain.{walk, endsb}
+use Rattle.chains.specs.Least.{least, leadsTo, leastLeading}
+use Rattle.rules.specs.Sizes.{maxTasks}
+use Rattle.walks.specs.Walk.{noId, taskAt, nextIn, lifted, raised}
+
+-- what stands at a place of a table, whatever stands for no place
+pub other-default : (l : List ℕ) (i a b : ℕ) → i < length l → getD l i a ≡ getD l i b
+other-default [] i a b h = absurd (omega arith)
+other-default (x ∷ l) zero a b h = refl
+other-default (x ∷ l) (suc i) a b h = other-default l i a b (omega arith)
+
+-- the task of an id
+module _ (x : ℕ) where
+  pub task-in : x < maxTasks → taskAt x ≡ some x
+  task-in h = rw (lt-ltb x maxTasks h) refl
+
+  pub task-out : maxTasks ≤ x → taskAt x ≡ none
+  task-out h = rw (le-ltb x maxTasks h) refl
+
+  -- what an id stands for is below the number of tasks there can be
+  pub task-below : (j : ℕ) → taskAt x ≡ some j → (x ≡ j) × (j < maxTasks)
+  task-below j e = elim (decLt x maxTasks) [
+    | yes h ↦ (let q : x ≡ j = some-same (sym (task-in h) ∙ e) in (q, omega arith))
+    | no h ↦ none-some (task-out (omega arith)) e
+  ]
+
+-- the task after i
+module _ (next : List ℕ) (i : ℕ) where
+  pub next-in : i < maxTasks → nextIn next i ≡ taskAt (getD next i 0)
+  next-in h = rw (lt-ltb i maxTasks h) refl
+
+  pub next-out : maxTasks ≤ i → nextIn next i ≡ none
+  next-out h = rw (le-ltb i maxTasks h) refl
+
+  pub next-below : (j : ℕ) → nextIn next i ≡ some j → (i < maxTasks) × (getD next i 0 ≡ j) × (j < maxTasks)
+  next-below j e = elim (decLt i maxTasks) [
+    | yes h ↦ (let b = task-below (getD next i 0) j (sym (next-in h) ∙ e) in (h, b .0, b .1))
+    | no h ↦ none-some (next-out (omega arith)) e
+  ]
+
+  -- whatever stands for a place that the table lacks
+  pub next-is : length next ≡ maxTasks → nextIn next i ≡ taskAt (getD next i noId)
+  next-is e = elim (decLt i maxTasks) [
+    | yes h ↦ next-in h ∙ ap taskAt (other-default next i 0 noId (omega arith))
+    | no h ↦ (let b : length next ≤ i = omega arith in next-out (omega arith) ∙ sym (rw (List·getD-eq-default next noId b) refl))
+  ]
+
+-- a table and a map that agree on the first n tasks, and lead nowhere from the others
+pub next-agrees : (next : List ℕ) (f : ℕ → Option ℕ) (n : ℕ) → ((i : ℕ) → i < n → nextIn next i ≡ f i)
+    → ((i : ℕ) → n ≤ i → nextIn next i ≡ none) → ((i : ℕ) → n ≤ i → f i ≡ none) → (i : ℕ) → nextIn next i ≡ f i
+next-agrees next f n h a b i = elim (decLt i n) [ yes q ↦ h i q | no q ↦ a i (omega arith) ∙ sym (b i (omega arith)) ]
+
+-- maps that agree everywhere are one
+module _ (f g : ℕ → Option ℕ) (same : (i : ℕ) → f i ≡ g i) where
+  pub walk-ext : (n : ℕ) (o : Option ℕ) → walk n f o ≡ walk n g o
+  walk-ext n o = ap (λ (h : ℕ → Option ℕ). walk n h o) (fun-ext same)
+
+  pub ends-ext : (n : ℕ) (o : Option ℕ) → endsb n f o ≡ endsb n g o
+  ends-ext n o = ap (λ (h : ℕ → Option ℕ). endsb n h o) (fun-ext same)
+
+  pub leading-ext : (n : ℕ) (own : ℕ → ℕ) (i : ℕ) → leastLeading n f own i ≡ leastLeading n g own i
+  leading-ext n own i = ap (λ (h : ℕ → Option ℕ). leastLeading n h own i) (fun-ext same)
+
+-- values that agree below n, and at d, have one least
+pub least-ext : (n : ℕ) (p : ℕ → Bool) (f g : ℕ → ℕ) (d : ℕ) → ((j : ℕ) → j < n → f j ≡ g j) → least n p f d ≡ least n p g d
+unfolding least
+least-ext zero p f g d h = refl
+least-ext (suc n) p f g d h = rw (h n (omega arith), least-ext n p f g d (λ j q. h j (omega arith)))
+
+pub leading-own : (n : ℕ) (next : ℕ → Option ℕ) (f g : ℕ → ℕ) → ((j : ℕ) → j < n → f j ≡ g j)
+    → (i : ℕ) → i < n → leastLeading n next f i ≡ leastLeading n next g i
+unfolding leastLeading
+leading-own n next f g h i q = rw (h i q) (least-ext n (λ j. leadsTo n next j i) f g (g i) h)
+
+-- lengths stay
+pub length-lifted : (levels : List ℕ) (p : ℕ) (l : List ℕ) → length (lifted levels p l) ≡ length levels
+unfolding lifted
+length-lifted levels p [] = refl
+length-lifted levels p (x ∷ l) =
+    length-lifted (set levels x (min p (getD levels x 0))) p l ∙ length-set levels x (min p (getD levels x 0))
+
+pub length-raised : (own next : List ℕ) (n j : ℕ) → length (raised own next n j) ≡ length own
+unfolding raised
+length-raised own next n zero = refl
+length-raised own next n (suc j) =
+    length-lifted (raised own next n j) (getD own j 0) (walk n (nextIn next) (taskAt j)) ∙ length-raised own next n j
+
+-- one task raised to p; a place that the table lacks stays at 0
+raise-same : (levels : List ℕ) (x p : ℕ) → getD (set levels x (min p (getD levels x 0))) x 0 ≡ min p (getD levels x 0)
+raise-same levels x p = elim (decLt x (length levels)) [
+  | yes h ↦ getD-set-same levels x (min p (getD levels x 0)) 0 h
+  | no h ↦ (let q : length levels ≤ x = omega arith in
+      rw (set-out levels x (min p (getD levels x 0)) q) (omega (arith, List·getD-eq-default levels 0 q)))
+]
+
+-- each on the list is raised to p, and no other
+pub getD-lifted : (levels : List ℕ) (p : ℕ) (l : List ℕ) (i : ℕ)
+    → getD (lifted levels p l) i 0 ≡ cond (member i l) (min p (getD levels i 0)) (getD levels i 0)
+unfolding lifted occ
+getD-lifted levels p [] i = refl
+getD-lifted levels p (x ∷ l) i = elim (ℕ-discrete x i) [
+  | yes e ↦ (let q : getD (set levels x (min p (getD levels x 0))) i 0 ≡ min p (getD levels i 0) = rw (← e) (raise-same levels x p) in
+      rw (lt-ltb 0 (eqn x i + occ i l) (omega (arith, eqn-at x i e)))
+      (getD-lifted (set levels x (min p (getD levels x 0))) p l i
+      ∙ rw q (by-test (λ (v : ℕ). v ≡ min p (getD levels i 0)) (member i l) (λ u. omega arith) (λ u. refl))))
+  | no n ↦ (let q : eqn x i + occ i l ≡ occ i l = omega (arith, eqn-other x i n) in
+      rw q
+      (getD-lifted (set levels x (min p (getD levels x 0))) p l i
+      ∙ rw (getD-set-other levels x i (min p (getD levels x 0)) 0 (λ e. n (sym e))) refl))
+]
+
+-- after j tasks, the least of the task's own and of those whose chain leads to it
+module _ (own next : List ℕ) (n : ℕ) where
+  pub getD-raised : (j i : ℕ) → j ≤ maxTasks
+      → getD (raised own next n j) i 0 ≡ least j (λ k. leadsTo n (nextIn next) k i) (λ k. getD own k 0) (getD own i 0)
+  unfolding raised least leadsTo
+  getD-raised zero i h = refl
+  getD-raised (suc j) i h =
+      getD-lifted (raised own next n j) (getD own j 0) (walk n (nextIn next) (taskAt j)) i
+      ∙ rw (task-in j (omega arith), getD-raised j i (omega arith)) refl
+
+  -- the table that levels_of makes, read at a task
+  pub raised-is-level : n ≤ maxTasks → (i : ℕ) → getD (raised own next n n) i 0 ≡ leastLeading n (nextIn next) (λ j. getD own j 0) i
+  unfolding leastLeading
+  raised-is-level h i = getD-raised n i h
+
+  -- the same over another map that agrees with the table
+  pub raised-ext : n ≤ maxTasks → (f : ℕ → Option ℕ) → ((i : ℕ) → nextIn next i ≡ f i)
+      → (i : ℕ) → getD (raised own next n n) i 0 ≡ leastLeading n f (λ j. getD own j 0) i
+  raised-ext h f e i = raised-is-level h i ∙ leading-ext (nextIn next) f e n (λ j. getD own j 0) i
+
+-- a chain among the first n tasks comes to no other
+walk-below : (f : ℕ → Option ℕ) (n : ℕ) → ((k m : ℕ) → k < n → f k ≡ some m → m < n) → (i : ℕ) → n ≤ i
+    → (fuel : ℕ) (o : Option ℕ) → ((m : ℕ) → o ≡ some m → m < n) → occ i (walk fuel f o) ≡ 0
+unfolding walk occ
+walk-below f n b i h zero o s = refl
+walk-below f n b i h (suc fuel) none s = refl
+walk-below f n b i h (suc fuel) (some j) s =
+    let q : j < n = s j refl in
+    omega (arith, eqn-other j i (λ e. omega arith), walk-below f n b i h fuel (f j) (λ m. b j m q))
+
+least-none : (n : ℕ) (p : ℕ → Bool) (f : ℕ → ℕ) (d : ℕ) → ((j : ℕ) → j < n → p j ≡ false) → least n p f d ≡ d
+unfolding least
+least-none zero p f d h = refl
+least-none (suc n) p f d h = rw (h n (omega arith)) (least-none n p f d (λ j q. h j (omega arith)))
+
+-- the levels of the others stay
+pub raised-out : (own next : List ℕ) (n : ℕ) → n ≤ maxTasks → ((k m : ℕ) → k < n → nextIn next k ≡ some m → m < n)
+    → (i : ℕ) → n ≤ i → getD (raised own next n n) i 0 ≡ getD own i 0
+unfolding leadsTo
+raised-out own next n h b i q =
+    getD-raised own next n n i h
+    ∙ least-none n (λ k. leadsTo n (nextIn next) k i) (λ k. getD own k 0) (getD own i 0)
+    (λ j r. rw (walk-below (nextIn next) n b i q n (some j) (λ m e. omega (arith, some-same e))) refl)

@@ -1,0 +1,129 @@
+// Walks from waiter to owner: `next` holds, for each task, the id of the task it leads to, or NONE.
+ghost use mathlib.Core.Path.{_≡_};
+ghost use Prim.Native.Nat.{min};
+ghost use lib.ListN.{length, getD};
+ghost use lib.Dec.{eqb};
+ghost use Rattle.lists.specs.Test.{allb};
+ghost use Rattle.lists.specs.Count.{member};
+ghost use Rattle.lists.specs.Order.{before};
+ghost use Rattle.chains.specs.Chain.{endsb};
+ghost use Rattle.walks.specs.Walk.{taskAt, nextIn, lifted, raised, chainFrom};
+
+// How many tasks there can be.
+pub const TASKS: usize = 16;
+
+// Each task on the chain from `at` raised to `p`; the fuel, tasks not yet seen, falls at each call.
+pub fn lift(levels: [u8; 16], next: &[u8; 16], at: u8, p: u8, fuel: u8) -> [u8; 16]
+    ensures { λ r. ⌜ r ≡ lifted levels p (chainFrom (now (next .entry)) at fuel) ⌝ }
+{
+    if fuel == 0 {
+        return levels;
+    }
+    let first = at as usize;
+    if TASKS <= first {
+        return levels;
+    }
+    let mut l = levels;
+    if p < l[first] {
+        l[first] = p;
+    }
+    lift(l, next, next[first], p, fuel - 1)
+}
+
+// The least own priority among each task and all tasks whose chain leads to it, of the first `n` tasks.
+pub fn levels_of(own: [u8; 16], next: &[u8; 16], n: u8) -> [u8; 16]
+    ensures { λ r. ⌜ r ≡ raised own (now (next .entry)) n (min n 16) ⌝ }
+{
+    let mut l = own;
+    let mut j: u8 = 0;
+    while j < n {
+        let i = j as usize;
+        if TASKS <= i {
+            return l;
+        }
+        let m = lift(l, next, j, own[i], n);
+        l = m;
+        j += 1;
+    }
+    l
+}
+
+// What a walk along a chain found: how many tasks stand before the caller, and whether it came to the caller.
+pub struct Found {
+    pub links: u8,
+    pub ring: bool,
+}
+
+// The chain from `at` to its end, or to the caller; the fuel, tasks not yet seen, falls at each call.
+pub fn follow(next: &[u8; 16], at: u8, caller: u8, fuel: u8) -> Found
+    ensures { λ r. ⌜ (r .links ≡ length (before caller (chainFrom (now (next .entry)) at fuel))) × (r .ring ≡ member caller (chainFrom (now (next .entry)) at fuel)) ⌝ }
+{
+    let mut f = Found {
+        links: 0,
+        ring: false,
+    };
+    if fuel == 0 {
+        return f;
+    }
+    let i = at as usize;
+    if TASKS <= i {
+        return f;
+    }
+    if at == caller {
+        f.ring = true;
+        return f;
+    }
+    f = follow(next, next[i], caller, fuel - 1);
+    f.links += 1;
+    f
+}
+
+// Does the chain from `at` end within the fuel?
+pub fn ends(next: &[u8; 16], at: u8, fuel: u8) -> bool
+    ensures { λ r. ⌜ r ≡ endsb fuel (nextIn (now (next .entry))) (taskAt at) ⌝ }
+{
+    let i = at as usize;
+    if TASKS <= i {
+        return true;
+    }
+    if fuel == 0 {
+        return false;
+    }
+    ends(next, next[i], fuel - 1)
+}
+
+// Does the chain of each of the first `n` tasks end?
+pub fn all_end(next: &[u8; 16], n: u8) -> bool
+    ensures { λ r. ⌜ r ≡ allb (min n 16) (λ i. endsb n (nextIn (now (next .entry))) (nextIn (now (next .entry)) i)) ⌝ }
+{
+    let mut t: u8 = 0;
+    while t < n {
+        let i = t as usize;
+        if TASKS <= i {
+            return true;
+        }
+        if !ends(next, next[i], n) {
+            return false;
+        }
+        t += 1;
+    }
+    true
+}
+
+// Do two tables agree on the first `n` tasks?
+pub fn agree(a: [u8; 16], b: [u8; 16], n: u8) -> bool
+    ensures { λ r. ⌜ r ≡ allb (min n 16) (λ i. eqb (getD a i 0) (getD b i 0)) ⌝ }
+{
+    let mut k: u8 = 0;
+    while k < n {
+        let i = k as usize;
+        if TASKS <= i {
+            return true;
+        }
+        if a[i] != b[i] {
+            return false;
+        }
+        k += 1;
+    }
+    true
+}
