@@ -8,9 +8,13 @@ use lib.Dec.{ltb}
 abbrev pub maxDigits : ℕ
 maxDigits = 10
 
+-- the ASCII byte of the digit 0
+abbrev pub zeroByte : ℕ
+zeroByte = 48
+
 -- the ASCII byte of v's last digit
 abbrev pub lastDigit : ℕ → ℕ
-lastDigit v = 48 + v % 10
+lastDigit v = zeroByte + v % 10
 
 -- v's last digits, at most as many as the fuel, with no leading zero
 unfoldable pub digitsWithin : ℕ → ℕ → List ℕ

@@ -1,0 +1,4 @@
+-- Laws that the proofs of this crate's functions cite.
+pub mod Laws
+pub mod SoundCode
+pub mod Facts

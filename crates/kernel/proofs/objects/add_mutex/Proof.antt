@@ -1,0 +1,26 @@
+-- `kernel::objects::add_mutex` meets its contract.
+use borrow.Author.Needs.{needs}
+use borrow.Author.Tests.{le-ltb, lt-ltb}
+use Rattle.kernel.specs.Machine.{mutexAdded}
+use Rattle.kernel.proofs.objects.add_mutex.Statement.{statement}
+use Rattle.kernel.proofs.objects.add_mutex.Tie as tie
+
+cast-i : tie.Need-cast-i
+cast-i c = search needs
+
+returns : tie.Need-returns
+unfolding mutexAdded
+returns c = simp (le-ltb _ _ (c .if1 .taken))
+
+element-write-r : tie.Need-element-write-r
+element-write-r c = search needs
+
+add-r : tie.Need-add-r
+add-r c = search needs
+
+returns-2 : tie.Need-returns-2
+unfolding mutexAdded
+returns-2 c = simp (lt-ltb _ _ (c .before .if1 .left))
+
+pub add-mutex-spec : {M : Type 1} → statement M
+add-mutex-spec = tie.close (tie.spec cast-i returns element-write-r add-r returns-2)

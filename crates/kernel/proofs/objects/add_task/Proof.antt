@@ -1,0 +1,30 @@
+-- `kernel::objects::add_task` meets its contract.
+use borrow.Author.Needs.{needs}
+use borrow.Author.Tests.{le-ltb, lt-ltb}
+use Rattle.kernel.specs.Machine.{taskAdded}
+use Rattle.kernel.proofs.objects.add_task.Statement.{statement}
+use Rattle.kernel.proofs.objects.add_task.Tie as tie
+
+cast-i : tie.Need-cast-i
+cast-i c = search needs
+
+returns : tie.Need-returns
+unfolding taskAdded
+returns c = simp (le-ltb _ _ (c .if1 .taken))
+
+element-write-r : tie.Need-element-write-r
+element-write-r c = search needs
+
+element-write-r-2 : tie.Need-element-write-r-2
+element-write-r-2 c = search needs
+
+add-r : tie.Need-add-r
+add-r c = search needs
+
+returns-2 : tie.Need-returns-2
+unfolding taskAdded
+returns-2 c = simp (lt-ltb _ _ (c .before .if1 .left))
+
+pub add-task-spec : {M : Type 1} → statement M
+add-task-spec =
+    tie.close (tie.spec cast-i returns element-write-r element-write-r-2 add-r returns-2)

@@ -1,0 +1,118 @@
+// The public face: a fresh record, the test of a record, and the step.
+ghost use mathlib.Core.Path.{_≡_};
+ghost use Prim.Native.Nat.{ℕ, _≤_, _<_};
+ghost use Rattle.kernel.specs.SoundRecord.{soundOf};
+ghost use Rattle.kernel.specs.StepRecord.{stepOf, stays};
+ghost use Rattle.kernel.specs.DemandRecord.{freshRecord};
+ghost use Rattle.kernel.specs.GoodRecord.{Typed};
+ghost use Rattle.kernel.specs.Machine.{countAt, maximumAt};
+ghost use Rattle.kernel.specs.MachineLaws.{machineStep};
+use crate::Answer;
+use crate::Mutexes;
+use crate::NONE;
+use crate::Out;
+use crate::Request;
+use crate::Semaphores;
+use crate::State;
+use crate::Tasks;
+use crate::sound;
+use crate::steps;
+use queues::Queue;
+
+// "A fresh state is in set-up, with nothing made, clock and hold 0."
+pub fn fresh() -> State
+    ensures { λ r. ⌜ r ≡ freshRecord ⌝ }
+{
+    let none = Queue {
+        ids: [NONE; 16],
+        n: 0,
+    };
+    let tasks = Tasks {
+        due: [0u32; 16],
+        priority: [0u8; 16],
+        level: [0u8; 16],
+        outcome: [0u8; 16],
+        wait: [0u8; 16],
+        object: [0u8; 16],
+        timed: [0u8; 16],
+        n: 0,
+    };
+    let mutexes = Mutexes {
+        kind: [0u8; 8],
+        owner: [NONE; 8],
+        n: 0,
+    };
+    let semaphores = Semaphores {
+        count: [0u32; 8],
+        maximum: [0u32; 8],
+        n: 0,
+    };
+    State {
+        tasks: tasks,
+        semaphores: semaphores,
+        clock: 0,
+        mutexes: mutexes,
+        ready: none,
+        waiting: none,
+        started: 0,
+        hold: 0,
+        running: NONE,
+    }
+}
+
+// Is the record sound? The second part of the contract says what its types tell.
+fn tested(s: State) -> bool
+    ensures { λ r. ⌜ (r ≡ soundOf s) × Typed s ⌝ }
+{
+    sound::check(s)
+}
+
+// Is the record sound?
+pub fn is_sound(s: State) -> bool
+    ensures { λ r. ⌜ r ≡ soundOf s ⌝ }
+{
+    tested(s)
+}
+
+// The step of a request, on a sound record.
+fn perform(s: State, x: Request) -> Out
+    requires { ⌜ ((j : ℕ) → j < s .semaphores .n → countAt (s .semaphores) j ≤ maximumAt (s .semaphores) j) ⌝ }
+    ensures { λ r. ⌜ r ≡ machineStep s x ⌝ }
+{
+    match x {
+        Request::Task { priority } => steps::task(s, priority),
+        Request::Mutex { kind } => steps::mutex(s, kind),
+        Request::Sem { count, maximum } => steps::sem(s, count, maximum),
+        Request::Start => steps::start(s),
+        Request::Lock { mutex, time } => steps::lock(s, mutex, time),
+        Request::Unlock { mutex } => steps::unlock(s, mutex),
+        Request::Pend { semaphore, time } => steps::pend(s, semaphore, time),
+        Request::Post { semaphore } => steps::post(s, semaphore),
+        Request::Flush { semaphore } => steps::flush(s, semaphore),
+        Request::Sleep { time } => steps::sleep(s, time),
+        Request::Yield => steps::yield_now(s),
+        Request::Hold => steps::hold(s),
+        Request::Free => steps::free(s),
+        Request::Tick => steps::tick(s),
+        Request::Level { task } => steps::level(s, task),
+        Request::Outcome { task } => steps::outcome(s, task),
+    }
+}
+
+// The step: for any record and any request, what the rules answer; 15 with no task to run where the record isn't sound.
+pub fn step(s: State, x: Request) -> Out
+    ensures { λ r. ⌜ r ≡ stepOf s x ⌝ }
+{
+    if tested(s) {
+        return perform(s, x);
+    }
+    let a = Answer::Refused {
+        number: 15,
+        value: 0,
+        run: NONE,
+    };
+    Out {
+        state: s,
+        answer: a,
+    }
+}

@@ -1,0 +1,151 @@
+// After each accepted step: levels, the ready order, and who runs.
+ghost use mathlib.Core.Path.{_≡_};
+ghost use Rattle.lists.specs.Table.{filled};
+ghost use Rattle.kernel.specs.Machine.{withReady, withTasks, withLevel, newLevels, resettled, settled, without, ran, displaced, dispatched, woke, lined, blockedOn, movedOf};
+use crate::FOREVER;
+use crate::Mutexes;
+use crate::NONE;
+use crate::State;
+use crate::Tasks;
+use crate::tables;
+use queues::Queue;
+
+// Every task's level, as the rules define it.
+pub fn new_levels(t: Tasks, m: Mutexes) -> [u8; 16]
+    ensures { λ r. ⌜ r ≡ newLevels t m ⌝ }
+{
+    let lends = tables::lends_of(t, m);
+    let own = t.priority;
+    walks::levels_of(own, &lends, t.n)
+}
+
+// The ready order by the new levels: those whose level changed, and then the woken ones, by id at the tail of their level.
+fn resettle(q: Queue, old: [u8; 16], new: [u8; 16], woken: [u8; 16], n: u8) -> Queue
+    ensures { λ r. ⌜ r ≡ resettled q old new woken n ⌝ }
+{
+    let changed = tables::differ(old, new);
+    let there = queues::count_in([0u8; 16], q);
+    let moved = tables::both(changed, there);
+    let stay = queues::keep_flagged(q, changed, 0);
+    let back = queues::insert_flagged(stay, new, moved, n);
+    queues::insert_flagged(back, new, woken, n)
+}
+
+// Levels are as defined, and the ready order follows them.
+pub fn settle(s: State, woken: [u8; 16]) -> State
+    ensures { λ r. ⌜ r ≡ settled s woken ⌝ }
+{
+    let t = s.tasks;
+    let m = s.mutexes;
+    let q = s.ready;
+    let old = t.level;
+    let new = new_levels(t, m);
+    let order = resettle(q, old, new, woken, t.n);
+    let mut u = t;
+    u.level = new;
+    let mut r = s;
+    r.tasks = u;
+    r.ready = order;
+    r
+}
+
+// The queue without `id`.
+fn without_id(q: Queue, id: u8) -> Queue
+    ensures { λ r. ⌜ r ≡ without q id ⌝ }
+{
+    let f = tables::only(id);
+    queues::keep_flagged(q, f, 0)
+}
+
+fn run(s: State, id: u8, q: Queue) -> State
+    ensures { λ r. ⌜ r ≡ ran s id q ⌝ }
+{
+    let mut r = s;
+    r.ready = q;
+    r.running = id;
+    r
+}
+
+// The first ready task `x` takes the place of the running task, which goes to the head of its level.
+fn displace(s: State, x: u8) -> State
+    ensures { λ r. ⌜ r ≡ displaced s (s .running) x ⌝ }
+{
+    let q = s.ready;
+    let t = s.tasks;
+    let levels = t.level;
+    let old = s.running;
+    let rest = without_id(q, x);
+    let level = queues::key_of(levels, old) as u16;
+    let order = queues::insert(rest, levels, level, old);
+    run(s, x, order)
+}
+
+// "If nobody runs, the first ready task runs"; it displaces a running one only if hold is 0 and it is strictly more urgent.
+pub fn dispatch(s: State) -> State
+    ensures { λ r. ⌜ r ≡ dispatched s ⌝ }
+{
+    if s.started == 0 {
+        return s;
+    }
+    let q = s.ready;
+    if q.n == 0 {
+        return s;
+    }
+    let x = q.ids[0];
+    if s.running == NONE {
+        let rest = without_id(q, x);
+        return run(s, x, rest);
+    }
+    if s.hold != 0 {
+        return s;
+    }
+    let t = s.tasks;
+    let levels = t.level;
+    if queues::key_of(levels, x) < queues::key_of(levels, s.running) {
+        return displace(s, x);
+    }
+    s
+}
+
+// The waits of the flagged tasks end.
+pub fn wake(s: State, flags: [u8; 16], slept: u8, other: u8) -> State
+    ensures { λ r. ⌜ r ≡ woke s flags slept other ⌝ }
+{
+    let t = tables::end_where(s.tasks, flags, slept, other);
+    let q = queues::keep_flagged(s.waiting, flags, 0);
+    let mut r = s;
+    r.tasks = t;
+    r.waiting = q;
+    r
+}
+
+// The flagged tasks become ready, no level having changed.
+pub fn line_up(s: State, flags: [u8; 16]) -> State
+    ensures { λ r. ⌜ r ≡ lined s flags ⌝ }
+{
+    let t = s.tasks;
+    let levels = t.level;
+    let q = queues::insert_flagged(s.ready, levels, flags, t.n);
+    let mut r = s;
+    r.ready = q;
+    r
+}
+
+// Task `id` begins to wait, and nobody runs.
+pub fn block(s: State, id: u8, kind: u8, object: u8, time: u32) -> State
+    ensures { λ r. ⌜ r ≡ blockedOn s id kind object time ⌝ }
+{
+    let q = queues::push(s.waiting, id);
+    let mut r = s;
+    r.waiting = q;
+    r.running = NONE;
+    if time == FOREVER {
+        let t = tables::begin_wait(s.tasks, id, kind, object, 0, 0);
+        r.tasks = t;
+        return r;
+    }
+    let due = tables::due_at(s.clock, time);
+    let t = tables::begin_wait(s.tasks, id, kind, object, 1, due);
+    r.tasks = t;
+    r
+}

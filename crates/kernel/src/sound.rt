@@ -1,0 +1,533 @@
+// Is the record sound? One function for each phrase; the first that fails ends the test.
+ghost use mathlib.Core.Path.{_≡_};
+ghost use Prim.Native.Nat.{_<_};
+ghost use Rattle.kernel.specs.SoundRecord.{usedTaskb, unusedTaskb, taskPlaceb, tasksTidyb, idb, mutexPlaceb, mutexesTidyb, semPlaceb, semaphoresTidyb, queueTidyb, tidyb};
+ghost use Rattle.kernel.specs.Checks.{prioritiesIn, mutexIn, mutexesIn, countIn, countsIn, blockedAt, timedAt, outcomeAt, taskIn, tasksIn, placeAt, placesIn, ringless, levelsIn, topIn, startedIn, nothingOwned, outcomesZero, setUpIn, phaseIn, checks};
+use crate::FLUSHED;
+use crate::GRANTED;
+use crate::MAX_TICKS;
+use crate::MUTEXES;
+use crate::Mutexes;
+use crate::NO_WAIT;
+use crate::NONE;
+use crate::ON_MUTEX;
+use crate::ON_SEMAPHORE;
+use crate::ON_TIME;
+use crate::PENDING;
+use crate::SEMAPHORES;
+use crate::Semaphores;
+use crate::State;
+use crate::TASKS;
+use crate::TIMED_OUT;
+use crate::Tasks;
+use crate::objects;
+use crate::settle;
+use crate::tables;
+use queues::Queue;
+
+// The places of a task that is there: an object only for a wait on one, a due time only for a timed wait.
+fn used_task(t: Tasks, i: usize) -> bool
+    requires { ⌜ i < 16 ⌝ }
+    ensures { λ r. ⌜ r ≡ usedTaskb t i ⌝ }
+{
+    let kind = t.wait[i];
+    if ON_TIME < kind {
+        return false;
+    }
+    if t.object[i] != 0 {
+        if kind != ON_MUTEX {
+            if kind != ON_SEMAPHORE {
+                return false;
+            }
+        }
+    }
+    let timed = t.timed[i];
+    if 1 < timed {
+        return false;
+    }
+    if timed != 0 {
+        if kind == NO_WAIT {
+            return false;
+        }
+        return true;
+    }
+    t.due[i] == 0
+}
+
+// Unused places are as in the fresh state.
+fn unused_task(t: Tasks, i: usize) -> bool
+    requires { ⌜ i < 16 ⌝ }
+    ensures { λ r. ⌜ r ≡ unusedTaskb t i ⌝ }
+{
+    if t.priority[i] != 0 {
+        return false;
+    }
+    if t.level[i] != 0 {
+        return false;
+    }
+    if t.outcome[i] != 0 {
+        return false;
+    }
+    if t.wait[i] != 0 {
+        return false;
+    }
+    if t.object[i] != 0 {
+        return false;
+    }
+    if t.timed[i] != 0 {
+        return false;
+    }
+    t.due[i] == 0
+}
+
+fn task_place(t: Tasks, i: usize) -> bool
+    requires { ⌜ i < 16 ⌝ }
+    ensures { λ r. ⌜ r ≡ taskPlaceb t i ⌝ }
+{
+    if i < t.n as usize {
+        return used_task(t, i);
+    }
+    unused_task(t, i)
+}
+
+fn tasks_tidy(t: Tasks) -> bool
+    ensures { λ r. ⌜ r ≡ tasksTidyb t ⌝ }
+{
+    if 16 < t.n {
+        return false;
+    }
+    for i in 0..TASKS {
+        if !task_place(t, i) {
+            return false;
+        }
+    }
+    true
+}
+
+// An id is that of a task that there can be, or none.
+fn is_id(x: u8) -> bool
+    ensures { λ r. ⌜ r ≡ idb x ⌝ }
+{
+    if x < 16 {
+        return true;
+    }
+    x == NONE
+}
+
+fn mutex_place(m: Mutexes, j: usize) -> bool
+    requires { ⌜ j < 8 ⌝ }
+    ensures { λ r. ⌜ r ≡ mutexPlaceb m j ⌝ }
+{
+    if j < m.n as usize {
+        return is_id(m.owner[j]);
+    }
+    if m.kind[j] != 0 {
+        return false;
+    }
+    m.owner[j] == NONE
+}
+
+fn mutexes_tidy(m: Mutexes) -> bool
+    ensures { λ r. ⌜ r ≡ mutexesTidyb m ⌝ }
+{
+    if 8 < m.n {
+        return false;
+    }
+    for j in 0..MUTEXES {
+        if !mutex_place(m, j) {
+            return false;
+        }
+    }
+    true
+}
+
+fn semaphore_place(c: Semaphores, j: usize) -> bool
+    requires { ⌜ j < 8 ⌝ }
+    ensures { λ r. ⌜ r ≡ semPlaceb c j ⌝ }
+{
+    if j < c.n as usize {
+        return true;
+    }
+    if c.count[j] != 0 {
+        return false;
+    }
+    c.maximum[j] == 0
+}
+
+fn semaphores_tidy(c: Semaphores) -> bool
+    ensures { λ r. ⌜ r ≡ semaphoresTidyb c ⌝ }
+{
+    if 8 < c.n {
+        return false;
+    }
+    for j in 0..SEMAPHORES {
+        if !semaphore_place(c, j) {
+            return false;
+        }
+    }
+    true
+}
+
+fn queue_tidy(q: Queue) -> bool
+    ensures { λ r. ⌜ r ≡ queueTidyb q ⌝ }
+{
+    if 16 < q.n {
+        return false;
+    }
+    queues::rest_empty(q)
+}
+
+// "Unused table places as in the fresh state", and absent fields too.
+fn tidy(s: State) -> bool
+    ensures { λ r. ⌜ r ≡ tidyb s ⌝ }
+{
+    if !tasks_tidy(s.tasks) {
+        return false;
+    }
+    if !mutexes_tidy(s.mutexes) {
+        return false;
+    }
+    if !semaphores_tidy(s.semaphores) {
+        return false;
+    }
+    if !queue_tidy(s.ready) {
+        return false;
+    }
+    if !queue_tidy(s.waiting) {
+        return false;
+    }
+    if 1 < s.started {
+        return false;
+    }
+    is_id(s.running)
+}
+
+// Priorities are in range.
+fn priorities_in(t: Tasks) -> bool
+    ensures { λ r. ⌜ r ≡ prioritiesIn t ⌝ }
+{
+    let priorities = t.priority;
+    for i in 0..t.n {
+        if 32 <= queues::key_of(priorities, i) {
+            return false;
+        }
+    }
+    true
+}
+
+// A mutex's kind is in range, and its owner exists.
+fn mutex_in(m: Mutexes, n: u8, j: u8) -> bool
+    ensures { λ r. ⌜ r ≡ mutexIn m n j ⌝ }
+{
+    if 2 <= tables::kind_at(m, j) {
+        return false;
+    }
+    let owner = tables::owner_at(m, j);
+    if owner == NONE {
+        return true;
+    }
+    owner < n
+}
+
+fn mutexes_in(m: Mutexes, n: u8) -> bool
+    ensures { λ r. ⌜ r ≡ mutexesIn m n ⌝ }
+{
+    for j in 0..m.n {
+        if !mutex_in(m, n, j) {
+            return false;
+        }
+    }
+    true
+}
+
+// A count is at most its maximum, and that at least 1.
+fn count_in_range(c: Semaphores, j: u8) -> bool
+    ensures { λ r. ⌜ r ≡ countIn c j ⌝ }
+{
+    let maximum = objects::maximum_at(c, j);
+    if maximum < objects::count_at(c, j) {
+        return false;
+    }
+    0 < maximum
+}
+
+fn counts_in(c: Semaphores) -> bool
+    ensures { λ r. ⌜ r ≡ countsIn c ⌝ }
+{
+    for j in 0..c.n {
+        if !count_in_range(c, j) {
+            return false;
+        }
+    }
+    true
+}
+
+// What a task waits for exists and isn't available.
+fn blocked(s: State, i: u8) -> bool
+    ensures { λ r. ⌜ r ≡ blockedAt s i ⌝ }
+{
+    let t = s.tasks;
+    let kinds = t.wait;
+    let objects = t.object;
+    let kind = queues::key_of(kinds, i);
+    let object = queues::key_of(objects, i);
+    if kind == ON_MUTEX {
+        if s.mutexes.n <= object {
+            return false;
+        }
+        return tables::owner_at(s.mutexes, object) != NONE;
+    }
+    if kind == ON_SEMAPHORE {
+        if s.semaphores.n <= object {
+            return false;
+        }
+        return objects::count_at(s.semaphores, object) == 0;
+    }
+    true
+}
+
+// A timed wait has 1 to 2147483647 ticks left, and a sleep is timed.
+fn timed(t: Tasks, clock: u32, i: u8) -> bool
+    ensures { λ r. ⌜ r ≡ timedAt t clock i ⌝ }
+{
+    let flags = t.timed;
+    let kinds = t.wait;
+    if queues::key_of(flags, i) != 1 {
+        return queues::key_of(kinds, i) != ON_TIME;
+    }
+    let left = tables::ticks_left(tables::due_of(t, i), clock);
+    if left == 0 {
+        return false;
+    }
+    left <= MAX_TICKS
+}
+
+// A task's outcome is 1 exactly where it waits.
+fn outcome_in(t: Tasks, i: u8) -> bool
+    ensures { λ r. ⌜ r ≡ outcomeAt t i ⌝ }
+{
+    let kinds = t.wait;
+    let outcomes = t.outcome;
+    let outcome = queues::key_of(outcomes, i);
+    if queues::key_of(kinds, i) != NO_WAIT {
+        return outcome == PENDING;
+    }
+    if outcome == GRANTED {
+        return true;
+    }
+    if outcome == TIMED_OUT {
+        return true;
+    }
+    outcome == FLUSHED
+}
+
+fn task_in(s: State, i: u8) -> bool
+    ensures { λ r. ⌜ r ≡ taskIn s i ⌝ }
+{
+    if !blocked(s, i) {
+        return false;
+    }
+    if !timed(s.tasks, s.clock, i) {
+        return false;
+    }
+    outcome_in(s.tasks, i)
+}
+
+fn tasks_in(s: State) -> bool
+    ensures { λ r. ⌜ r ≡ tasksIn s ⌝ }
+{
+    for i in 0..s.tasks.n {
+        if !task_in(s, i) {
+            return false;
+        }
+    }
+    true
+}
+
+// Task `i` stands in one place: `waits` counts the waiting, `all` the waiting and the ready.
+fn place_at(s: State, waits: [u8; 16], all: [u8; 16], i: u8) -> bool
+    ensures { λ r. ⌜ r ≡ placeAt s waits all i ⌝ }
+{
+    let t = s.tasks;
+    let kinds = t.wait;
+    let mut expected: u8 = 1;
+    if queues::key_of(kinds, i) == NO_WAIT {
+        expected = 0;
+    }
+    if queues::key_of(waits, i) != expected {
+        return false;
+    }
+    if s.running == i {
+        return queues::key_of(all, i) == 0;
+    }
+    queues::key_of(all, i) == 1
+}
+
+// Each task stands in one place: running, ready or waiting.
+fn places_in(s: State) -> bool
+    ensures { λ r. ⌜ r ≡ placesIn s ⌝ }
+{
+    let n = s.tasks.n;
+    if !queues::ids_below(s.waiting, n) {
+        return false;
+    }
+    if !queues::ids_below(s.ready, n) {
+        return false;
+    }
+    if s.running != NONE {
+        if n <= s.running {
+            return false;
+        }
+    }
+    let waits = queues::count_in([0u8; 16], s.waiting);
+    let all = queues::count_in(waits, s.ready);
+    for i in 0..n {
+        if !place_at(s, waits, all, i) {
+            return false;
+        }
+    }
+    true
+}
+
+// "No ring of waits."
+fn no_ring(s: State) -> bool
+    ensures { λ r. ⌜ r ≡ ringless s ⌝ }
+{
+    let next = tables::next_of(s.tasks, s.mutexes);
+    walks::all_end(&next, s.tasks.n)
+}
+
+// "Stored levels as defined."
+fn levels_in(s: State) -> bool
+    ensures { λ r. ⌜ r ≡ levelsIn s ⌝ }
+{
+    let t = s.tasks;
+    let stored = t.level;
+    let defined = settle::new_levels(t, s.mutexes);
+    walks::agree(stored, defined, t.n)
+}
+
+// Is the running task at least as urgent as the first ready one?
+fn top_in(s: State) -> bool
+    ensures { λ r. ⌜ r ≡ topIn s ⌝ }
+{
+    let t = s.tasks;
+    let levels = t.level;
+    let q = s.ready;
+    queues::key_of(levels, s.running) <= queues::key_of(levels, q.ids[0])
+}
+
+// After start: a task runs if any is ready; hold only with a running task; at hold 0 none ready is more urgent.
+fn started_in(s: State) -> bool
+    ensures { λ r. ⌜ r ≡ startedIn s ⌝ }
+{
+    if s.running == NONE {
+        if s.ready.n != 0 {
+            return false;
+        }
+        return s.hold == 0;
+    }
+    if s.hold != 0 {
+        return true;
+    }
+    if s.ready.n == 0 {
+        return true;
+    }
+    top_in(s)
+}
+
+fn nothing_owned(m: Mutexes) -> bool
+    ensures { λ r. ⌜ r ≡ nothingOwned m ⌝ }
+{
+    for j in 0..m.n {
+        if tables::owner_at(m, j) != NONE {
+            return false;
+        }
+    }
+    true
+}
+
+fn outcomes_zero(t: Tasks) -> bool
+    ensures { λ r. ⌜ r ≡ outcomesZero t ⌝ }
+{
+    let outcomes = t.outcome;
+    for i in 0..t.n {
+        if queues::key_of(outcomes, i) != GRANTED {
+            return false;
+        }
+    }
+    true
+}
+
+// In set-up: clock 0, hold 0, nothing running, waiting or owned, outcomes 0, equal levels by id.
+fn set_up_in(s: State) -> bool
+    ensures { λ r. ⌜ r ≡ setUpIn s ⌝ }
+{
+    if s.clock != 0 {
+        return false;
+    }
+    if s.hold != 0 {
+        return false;
+    }
+    if s.running != NONE {
+        return false;
+    }
+    if s.waiting.n != 0 {
+        return false;
+    }
+    if !nothing_owned(s.mutexes) {
+        return false;
+    }
+    if !outcomes_zero(s.tasks) {
+        return false;
+    }
+    let t = s.tasks;
+    let levels = t.level;
+    queues::ties_by_id(s.ready, levels)
+}
+
+// What a started record or one in set-up owes.
+fn phase_in(s: State) -> bool
+    ensures { λ r. ⌜ r ≡ phaseIn s ⌝ }
+{
+    if s.started == 0 {
+        return set_up_in(s);
+    }
+    started_in(s)
+}
+
+// All phrases, in an order in which each can rely on those before it.
+pub fn check(s: State) -> bool
+    ensures { λ r. ⌜ r ≡ checks s ⌝ }
+{
+    if !tidy(s) {
+        return false;
+    }
+    if !priorities_in(s.tasks) {
+        return false;
+    }
+    if !mutexes_in(s.mutexes, s.tasks.n) {
+        return false;
+    }
+    if !counts_in(s.semaphores) {
+        return false;
+    }
+    if !tasks_in(s) {
+        return false;
+    }
+    if !places_in(s) {
+        return false;
+    }
+    if !no_ring(s) {
+        return false;
+    }
+    if !levels_in(s) {
+        return false;
+    }
+    let t = s.tasks;
+    let levels = t.level;
+    if !queues::ascending(s.ready, levels) {
+        return false;
+    }
+    phase_in(s)
+}

@@ -1,0 +1,284 @@
+// The tables of the record: waits that begin and end, flags that name tasks, and who leads to whom.
+ghost use mathlib.Core.Path.{_≡_};
+ghost use Prim.Native.Nat.{_<_};
+ghost use Rattle.lists.specs.Table.{filled};
+ghost use Rattle.kernel.specs.Record.{ticksLeft, dueAt};
+ghost use Rattle.kernel.specs.Machine.{waitBegun, waitEnded, endedIf, endedWhere, single, dueFlag, waiterFlag, differs, differFlag, bothOnes, bothFlag, ownerAt, nextAt, lendsAt, kindAt, anyFlag, dueOf};
+use crate::MUTEXES;
+use crate::Mutexes;
+use crate::NO_WAIT;
+use crate::NONE;
+use crate::ON_MUTEX;
+use crate::ON_TIME;
+use crate::PENDING;
+use crate::TASKS;
+use crate::Tasks;
+
+// "Wrapping subtract gives ticks left for each timed wait."
+pub fn ticks_left(due: u32, clock: u32) -> u32
+    ensures { λ r. ⌜ r ≡ ticksLeft due clock ⌝ }
+{
+    std::num::wrapping_sub_u32(due, clock)
+}
+
+// "Wrapping add steps the clock and makes due times."
+pub fn due_at(clock: u32, ticks: u32) -> u32
+    ensures { λ r. ⌜ r ≡ dueAt clock ticks ⌝ }
+{
+    std::num::wrapping_add_u32(clock, ticks)
+}
+
+// The clock at which a task's timed wait ends.
+pub fn due_of(t: Tasks, i: u8) -> u32
+    ensures { λ r. ⌜ r ≡ dueOf t i ⌝ }
+{
+    let j = i as usize;
+    if TASKS <= j {
+        return 0;
+    }
+    t.due[j]
+}
+
+// Task `i` begins to wait.
+pub fn begin_wait(t: Tasks, i: u8, kind: u8, object: u8, timed: u8, due: u32) -> Tasks
+    ensures { λ r. ⌜ r ≡ waitBegun t i kind object timed due ⌝ }
+{
+    let j = i as usize;
+    if TASKS <= j {
+        return t;
+    }
+    let mut r = t;
+    r.wait[j] = kind;
+    r.object[j] = object;
+    r.timed[j] = timed;
+    r.due[j] = due;
+    r.outcome[j] = PENDING;
+    r
+}
+
+// The wait of task `i` ends.
+pub fn end_wait(t: Tasks, i: u8, outcome: u8) -> Tasks
+    ensures { λ r. ⌜ r ≡ waitEnded t i outcome ⌝ }
+{
+    let j = i as usize;
+    if TASKS <= j {
+        return t;
+    }
+    let mut r = t;
+    r.wait[j] = NO_WAIT;
+    r.object[j] = 0;
+    r.timed[j] = 0;
+    r.due[j] = 0;
+    r.outcome[j] = outcome;
+    r
+}
+
+// One task of `end_where`.
+fn end_if(t: Tasks, flags: [u8; 16], slept: u8, other: u8, i: u8) -> Tasks
+    ensures { λ r. ⌜ r ≡ endedIf t flags slept other i ⌝ }
+{
+    if queues::key_of(flags, i) != 1 {
+        return t;
+    }
+    let kinds = t.wait;
+    if queues::key_of(kinds, i) == ON_TIME {
+        return end_wait(t, i, slept);
+    }
+    end_wait(t, i, other)
+}
+
+// The waits of the tasks whose flag is 1 end, sleeps with one outcome and other waits with another.
+pub fn end_where(t: Tasks, flags: [u8; 16], slept: u8, other: u8) -> Tasks
+    ensures { λ r. ⌜ r ≡ endedWhere t flags slept other 16 ⌝ }
+{
+    let mut r = t;
+    for i in 0..16u8 {
+        r = end_if(r, flags, slept, other, i);
+    }
+    r
+}
+
+// The flag of task `i` alone.
+pub fn only(i: u8) -> [u8; 16]
+    ensures { λ r. ⌜ r ≡ single i ⌝ }
+{
+    let mut f = [0u8; 16];
+    let j = i as usize;
+    if j < TASKS {
+        f[j] = 1;
+    }
+    f
+}
+
+// Has task `i` a timed wait with one tick left?
+fn due_flag(t: Tasks, clock: u32, i: usize) -> u8
+    requires { ⌜ i < 16 ⌝ }
+    ensures { λ r. ⌜ r ≡ dueFlag t clock i ⌝ }
+{
+    if t.timed[i] != 1 {
+        return 0;
+    }
+    if ticks_left(t.due[i], clock) == 1 {
+        return 1;
+    }
+    0
+}
+
+// The tasks whose waits end at the next tick.
+pub fn due_flags(t: Tasks, clock: u32) -> [u8; 16]
+    ensures { λ r. ⌜ r ≡ filled 16 (dueFlag t clock) ⌝ }
+{
+    let mut f = [0u8; 16];
+    for i in 0..16 {
+        f[i] = due_flag(t, clock, i);
+    }
+    f
+}
+
+// Does task `i` wait for the object?
+fn waiter_flag(t: Tasks, kind: u8, object: u8, i: usize) -> u8
+    requires { ⌜ i < 16 ⌝ }
+    ensures { λ r. ⌜ r ≡ waiterFlag t kind object i ⌝ }
+{
+    if t.wait[i] != kind {
+        return 0;
+    }
+    if t.object[i] == object {
+        return 1;
+    }
+    0
+}
+
+// The tasks that wait for the object.
+pub fn waiter_flags(t: Tasks, kind: u8, object: u8) -> [u8; 16]
+    ensures { λ r. ⌜ r ≡ filled 16 (waiterFlag t kind object) ⌝ }
+{
+    let mut f = [0u8; 16];
+    for i in 0..16 {
+        f[i] = waiter_flag(t, kind, object, i);
+    }
+    f
+}
+
+// The places where two tables differ.
+pub fn differ(a: [u8; 16], b: [u8; 16]) -> [u8; 16]
+    ensures { λ r. ⌜ r ≡ filled 16 (differFlag a b) ⌝ }
+{
+    let mut f = [0u8; 16];
+    for i in 0..16 {
+        f[i] = differ_flag(a[i], b[i]);
+    }
+    f
+}
+
+fn differ_flag(x: u8, y: u8) -> u8
+    ensures { λ r. ⌜ r ≡ differs x y ⌝ }
+{
+    if x == y {
+        return 0;
+    }
+    1
+}
+
+// The places where both tables hold a 1.
+pub fn both(a: [u8; 16], b: [u8; 16]) -> [u8; 16]
+    ensures { λ r. ⌜ r ≡ filled 16 (bothFlag a b) ⌝ }
+{
+    let mut f = [0u8; 16];
+    for i in 0..16 {
+        f[i] = both_flag(a[i], b[i]);
+    }
+    f
+}
+
+fn both_flag(x: u8, y: u8) -> u8
+    ensures { λ r. ⌜ r ≡ bothOnes x y ⌝ }
+{
+    if x != 1 {
+        return 0;
+    }
+    if y == 1 {
+        return 1;
+    }
+    0
+}
+
+// Does any place hold a 1?
+pub fn any_flag(f: [u8; 16]) -> bool
+    ensures { λ r. ⌜ r ≡ anyFlag f ⌝ }
+{
+    for i in 0..16 {
+        if f[i] == 1 {
+            return true;
+        }
+    }
+    false
+}
+
+// A mutex's owner; NONE for a number that no mutex has.
+pub fn owner_at(m: Mutexes, j: u8) -> u8
+    ensures { λ r. ⌜ r ≡ ownerAt m j ⌝ }
+{
+    let i = j as usize;
+    if MUTEXES <= i {
+        return NONE;
+    }
+    m.owner[i]
+}
+
+pub fn kind_at(m: Mutexes, j: u8) -> u8
+    ensures { λ r. ⌜ r ≡ kindAt m j ⌝ }
+{
+    let i = j as usize;
+    if MUTEXES <= i {
+        return 0;
+    }
+    m.kind[i]
+}
+
+// The owner of the mutex for which task `i` waits, mutexes of every kind.
+fn next_at(t: Tasks, m: Mutexes, i: usize) -> u8
+    requires { ⌜ i < 16 ⌝ }
+    ensures { λ r. ⌜ r ≡ nextAt t m i ⌝ }
+{
+    if t.wait[i] != ON_MUTEX {
+        return NONE;
+    }
+    owner_at(m, t.object[i])
+}
+
+// Who leads to whom, by mutexes of every kind.
+pub fn next_of(t: Tasks, m: Mutexes) -> [u8; 16]
+    ensures { λ r. ⌜ r ≡ filled 16 (nextAt t m) ⌝ }
+{
+    let mut a = [NONE; 16];
+    for i in 0..16 {
+        a[i] = next_at(t, m, i);
+    }
+    a
+}
+
+// The owner of the inheriting mutex for which task `i` waits.
+fn lends_at(t: Tasks, m: Mutexes, i: usize) -> u8
+    requires { ⌜ i < 16 ⌝ }
+    ensures { λ r. ⌜ r ≡ lendsAt t m i ⌝ }
+{
+    if t.wait[i] != ON_MUTEX {
+        return NONE;
+    }
+    if kind_at(m, t.object[i]) != 1 {
+        return NONE;
+    }
+    owner_at(m, t.object[i])
+}
+
+// Who lends a level to whom.
+pub fn lends_of(t: Tasks, m: Mutexes) -> [u8; 16]
+    ensures { λ r. ⌜ r ≡ filled 16 (lendsAt t m) ⌝ }
+{
+    let mut a = [NONE; 16];
+    for i in 0..16 {
+        a[i] = lends_at(t, m, i);
+    }
+    a
+}
