@@ -1,0 +1,18 @@
+// Steps through the edges that document 01 wants run, and through damaged records, and prints what comes back.
+mod damaged;
+mod edges;
+mod show;
+
+fn main() {
+    edges::session();
+    edges::times();
+    edges::holds();
+    edges::time_out_lowers();
+    damaged::sound_ones();
+    damaged::tasks();
+    damaged::waits();
+    damaged::objects();
+    damaged::orders();
+    damaged::phases();
+    damaged::wild();
+}
