@@ -1,0 +1,677 @@
+//! State, steps and refusals; then the numeric record and its soundness.
+
+/// "4294967295 (forever)"
+pub const FOREVER: u32 = 4_294_967_295;
+/// "1 to 2147483647 ticks"
+pub const LONGEST: u32 = 2_147_483_647;
+
+pub const TASKS: usize = 16;
+pub const MUTEXES: usize = 8;
+pub const SEMAPHORES: usize = 8;
+
+/// A step with its numbers, any numbers.
+#[derive(Clone, Copy, Debug, PartialEq, Eq)]
+pub enum Step {
+    Task(u32),
+    Mutex(u32),
+    Sem(u32, u32),
+    Start,
+    Lock(u32, u32),
+    Unlock(u32),
+    Pend(u32, u32),
+    Post(u32),
+    Flush(u32),
+    Sleep(u32),
+    Yield,
+    Hold,
+    Free,
+    Tick,
+    Level(u32),
+    Outcome(u32),
+}
+
+/// What comes back: the number of the table, the value, the task to run.
+#[derive(Clone, Copy, Debug, PartialEq, Eq)]
+pub struct Answer {
+    pub number: u32,
+    pub value: u32,
+    pub run: Option<usize>,
+}
+
+#[derive(Clone, Copy, Debug, PartialEq, Eq)]
+pub enum Object {
+    Mutex(usize),
+    Semaphore(usize),
+    Time,
+}
+
+/// A wait and, if it is timed, the ticks it has left. (The record keeps the
+/// clock value at which it ends; here the ticks are simply counted down.)
+#[derive(Clone, Copy, Debug, PartialEq, Eq)]
+pub struct Wait {
+    pub object: Object,
+    pub left: Option<u32>,
+}
+
+#[derive(Clone, Debug, PartialEq, Eq)]
+pub struct Task {
+    pub priority: u8,
+    pub level: u8,
+    pub outcome: u8,
+    pub wait: Option<Wait>,
+}
+
+/// "A mutex is plain (kind 0) or inheriting (kind 1)."
+#[derive(Clone, Debug, PartialEq, Eq)]
+pub struct Mutex {
+    pub inheriting: bool,
+    pub owner: Option<usize>,
+}
+
+#[derive(Clone, Debug, PartialEq, Eq)]
+pub struct Semaphore {
+    pub count: u32,
+    pub maximum: u32,
+}
+
+/// The parts of a state. The default is the fresh state: "in set-up, with
+/// nothing made, clock and hold 0".
+#[derive(Clone, Debug, Default, PartialEq, Eq)]
+pub struct State {
+    pub tasks: Vec<Task>,
+    pub mutexes: Vec<Mutex>,
+    pub semaphores: Vec<Semaphore>,
+    pub clock: u32,
+    pub started: bool,
+    pub hold: u8,
+    pub running: Option<usize>,
+    /// The ready order.
+    pub ready: Vec<usize>,
+    /// "the waiting tasks in the order in which their waits began"
+    pub waiting: Vec<usize>,
+}
+
+impl State {
+    /// One step: refused, the state is handed on as it was; accepted, the step
+    /// is made, and then comes what the document says "after each accepted step".
+    pub fn step(&self, s: Step) -> (State, Answer) {
+        if let Some((number, value)) = self.refusal(s) {
+            return (self.clone(), Answer { number, value, run: self.running });
+        }
+        let mut next = self.clone();
+        let mut woken = Vec::new();
+        let (number, value) = next.make(s, &mut woken);
+        next.settle(woken);
+        next.dispatch();
+        let run = next.running;
+        (next, Answer { number, value, run })
+    }
+
+    /// The table of refusals, in its order: "4, 5, 6, 7, 8 (full table), 9, 10, 3,
+    /// 11, 12; then 2 and 13"; the first row that applies gives number and value.
+    /// (A row may say anything where one above it applies.)
+    fn refusal(&self, s: Step) -> Option<(u32, u32)> {
+        use Step::*;
+        let of_set_up = matches!(s, Task(_) | Mutex(_) | Sem(..) | Start);
+        let of_any_phase = matches!(s, Level(_) | Outcome(_));
+        let without_caller = of_set_up || of_any_phase || matches!(s, Post(_) | Flush(_) | Tick);
+        let missing = match s {
+            Lock(m, _) | Unlock(m) => m as usize >= self.mutexes.len(),
+            Pend(s, _) | Post(s) | Flush(s) => s as usize >= self.semaphores.len(),
+            Level(i) | Outcome(i) => i as usize >= self.tasks.len(),
+            _ => false,
+        };
+        let out_of_range = match s {
+            Task(priority) => priority > 31,
+            Mutex(kind) => kind > 1,
+            Sem(count, maximum) => maximum == 0 || count > maximum,
+            Lock(_, t) | Pend(_, t) => t > LONGEST && t != FOREVER,
+            Sleep(t) => t == 0 || t > LONGEST,
+            _ => false,
+        };
+        let full = match s {
+            Task(_) => self.tasks.len() == TASKS,
+            Mutex(_) => self.mutexes.len() == MUTEXES,
+            Sem(..) => self.semaphores.len() == SEMAPHORES,
+            _ => false,
+        };
+        let owner = match s {
+            Lock(m, _) | Unlock(m) => self.mutexes.get(m as usize).and_then(|m| m.owner),
+            _ => None,
+        };
+        let (count, maximum) = match s {
+            Pend(s, _) | Post(s) => self.semaphores.get(s as usize).map(|s| (s.count, s.maximum)),
+            _ => None,
+        }
+        .unwrap_or((0, 1));
+        // "A free mutex or a credit is taken even while held."
+        let would_wait = match s {
+            Lock(..) => owner.is_some(),
+            Pend(..) => count == 0,
+            Sleep(_) => true,
+            _ => false,
+        };
+        let time_0 = matches!(s, Lock(_, 0) | Pend(_, 0));
+        let (links, ring) = self.chain(owner);
+        let no_waiter = |s: u32| self.best_waiter(Object::Semaphore(s as usize)).is_none();
+        let table = [
+            // "creation or start after start; any other step but level and outcome
+            // before it"
+            (4, !of_any_phase && of_set_up == self.started),
+            // "a step that needs a caller (all but creation, start, post, flush, tick,
+            // level, outcome) with none running"
+            (5, !without_caller && self.running.is_none()),
+            // "no such task, mutex or semaphore"
+            (6, missing),
+            // "priority over 31, kind over 1, maximum 0, count over maximum, or a time
+            // outside its range"
+            (7, out_of_range),
+            // "creation with the table full"
+            (8, full),
+            // "lock by the owner"
+            (9, matches!(s, Lock(..)) && owner.is_some() && owner == self.running),
+            // "unlock of a mutex that the caller doesn't own, a free one included"
+            (10, matches!(s, Unlock(_)) && owner != self.running),
+            // "would wait, and time is 0"
+            (3, would_wait && time_0),
+            // "would wait, or yield, while hold is above 0"
+            (11, self.hold > 0 && (would_wait || s == Yield)),
+            // "lock whose wait would close a ring"
+            (12, matches!(s, Lock(..)) && ring),
+            // "post: no waiter and count at maximum"
+            (2, matches!(s, Post(s) if no_waiter(s)) && count == maximum),
+            // "hold at 255, free at 0"
+            (13, s == Hold && self.hold == 255 || s == Free && self.hold == 0),
+        ];
+        let (number, _) = table.into_iter().find(|&(_, applies)| applies)?;
+        Some((number, if number == 12 { links } else { 0 }))
+    }
+
+    /// Makes a step that isn't refused, levels and orders still as before it.
+    /// Tasks that become ready by it are put into `woken`. Gives number and value.
+    fn make(&mut self, s: Step, woken: &mut Vec<usize>) -> (u32, u32) {
+        use Step::*;
+        match s {
+            // "value is the new id. A task becomes ready at the tail of its level."
+            Task(p) => {
+                let id = self.tasks.len();
+                let priority = p as u8;
+                self.tasks.push(self::Task { priority, level: priority, outcome: 0, wait: None });
+                woken.push(id);
+                return (0, id as u32);
+            }
+            Mutex(kind) => {
+                self.mutexes.push(self::Mutex { inheriting: kind == 1, owner: None });
+                return (0, self.mutexes.len() as u32 - 1);
+            }
+            Sem(count, maximum) => {
+                self.semaphores.push(Semaphore { count, maximum });
+                return (0, self.semaphores.len() as u32 - 1);
+            }
+            // "ends set-up; the first ready task runs" (by the dispatch)
+            Start => self.started = true,
+            // "a free mutex becomes the caller's. Else the caller waits."
+            Lock(m, t) => {
+                let owner = self.mutexes[m as usize].owner;
+                if owner.is_some() {
+                    let (links, _) = self.chain(owner);
+                    self.begin_wait(Object::Mutex(m as usize), t);
+                    return (1, links);
+                }
+                self.mutexes[m as usize].owner = self.running;
+            }
+            // "ownership passes to the best waiter, which becomes ready with
+            // outcome 0, or the mutex becomes free"
+            Unlock(m) => {
+                let m = m as usize;
+                let waiter = self.best_waiter(Object::Mutex(m));
+                self.mutexes[m].owner = waiter;
+                if let Some(i) = waiter {
+                    self.end_wait(i, 0, woken);
+                }
+            }
+            // "takes one credit if the count is above 0, else waits"
+            Pend(s, t) => {
+                let s = s as usize;
+                if self.semaphores[s].count == 0 {
+                    self.begin_wait(Object::Semaphore(s), t);
+                    return (1, 0);
+                }
+                self.semaphores[s].count -= 1;
+            }
+            // "the best waiter gets the credit (outcome 0), else the count rises
+            // by one"
+            Post(s) => match self.best_waiter(Object::Semaphore(s as usize)) {
+                Some(i) => self.end_wait(i, 0, woken),
+                None => self.semaphores[s as usize].count += 1,
+            },
+            // "every waiter becomes ready with outcome 21; the count stays"
+            Flush(s) => {
+                for i in self.waiting.clone() {
+                    if self.waits_for(i, Object::Semaphore(s as usize)) {
+                        self.end_wait(i, 21, woken);
+                    }
+                }
+            }
+            // "waits t ticks"
+            Sleep(t) => {
+                self.begin_wait(Object::Time, t);
+                return (1, 0);
+            }
+            // "the caller goes to the tail of its level, then the first ready
+            // task runs, perhaps the same one"
+            Yield => woken.extend(self.running.take()),
+            // "depth up or down by one"
+            Hold => self.hold += 1,
+            Free => self.hold -= 1,
+            // "clock plus one. Each wait begun with time t ends at the t-th tick
+            // after it: outcome 20, or 0 for a sleep."
+            Tick => {
+                self.clock = self.clock.wrapping_add(1);
+                for i in self.waiting.clone() {
+                    let mut wait = self.tasks[i].wait.unwrap();
+                    wait.left = wait.left.map(|ticks| ticks - 1);
+                    self.tasks[i].wait = Some(wait);
+                    if wait.left == Some(0) {
+                        let outcome = if wait.object == Object::Time { 0 } else { 20 };
+                        self.end_wait(i, outcome, woken);
+                    }
+                }
+            }
+            Level(i) => return (0, self.tasks[i as usize].level as u32),
+            Outcome(i) => return (0, self.tasks[i as usize].outcome as u32),
+        }
+        (0, 0)
+    }
+
+    /// "A task that begins to wait gets outcome 1."
+    fn begin_wait(&mut self, object: Object, t: u32) {
+        let i = self.running.take().unwrap();
+        let left = if t == FOREVER { None } else { Some(t) };
+        self.tasks[i].wait = Some(Wait { object, left });
+        self.tasks[i].outcome = 1;
+        self.waiting.push(i);
+    }
+
+    fn end_wait(&mut self, i: usize, outcome: u8, woken: &mut Vec<usize>) {
+        self.waiting.retain(|&j| j != i);
+        self.tasks[i].wait = None;
+        self.tasks[i].outcome = outcome;
+        woken.push(i);
+    }
+
+    fn waits_for(&self, i: usize, object: Object) -> bool {
+        matches!(self.tasks[i].wait, Some(wait) if wait.object == object)
+    }
+
+    /// "The best waiter is the first found going through levels 0 to 31 and, in a
+    /// level, oldest wait first."
+    fn best_waiter(&self, object: Object) -> Option<usize> {
+        for level in 0..=31 {
+            for &i in &self.waiting {
+                if self.tasks[i].level == level && self.waits_for(i, object) {
+                    return Some(i);
+                }
+            }
+        }
+        None
+    }
+
+    /// The chain of a mutex with this owner, seen from the caller: "Its owner, then the owner of
+    /// the mutex for which that task waits, and so on, plain mutexes counted too.
+    /// It ends at a task that waits for no mutex, or before the caller." Gives its
+    /// length and whether the caller ended it, so that a wait would close a ring.
+    fn chain(&self, owner: Option<usize>) -> (u32, bool) {
+        let mut links = 0;
+        let mut next = owner;
+        while let Some(i) = next {
+            if self.running == Some(i) {
+                return (links, true);
+            }
+            links += 1;
+            next = match self.tasks[i].wait {
+                Some(Wait { object: Object::Mutex(m), .. }) => self.mutexes[m].owner,
+                _ => None,
+            };
+        }
+        (links, false)
+    }
+
+    /// "A task's level is the smallest of its own priority and the levels of all
+    /// tasks waiting on inheriting mutexes that it owns." Every waiter hands its
+    /// level to the owner; a level passes along a chain of at most 15 links, so
+    /// sixteen rounds are enough.
+    fn levels(&self) -> Vec<u8> {
+        let mut levels: Vec<u8> = self.tasks.iter().map(|task| task.priority).collect();
+        for _ in 0..TASKS {
+            for (i, task) in self.tasks.iter().enumerate() {
+                let Some(Wait { object: Object::Mutex(m), .. }) = task.wait else { continue };
+                if let (true, Some(owner)) = (self.mutexes[m].inheriting, self.mutexes[m].owner) {
+                    levels[owner] = levels[owner].min(levels[i]);
+                }
+            }
+        }
+        levels
+    }
+
+    /// "levels are as defined; ready tasks whose level changed go, by ascending
+    /// id, to the tail of their new level; newly ready tasks go, by ascending id,
+    /// to the tail of theirs."
+    fn settle(&mut self, mut woken: Vec<usize>) {
+        let levels = self.levels();
+        let is_changed = |&i: &usize| self.tasks[i].level != levels[i];
+        let (mut changed, rest): (Vec<usize>, Vec<usize>) =
+            self.ready.iter().partition(|i| is_changed(i));
+        self.ready = rest;
+        for (task, level) in self.tasks.iter_mut().zip(levels) {
+            task.level = level;
+        }
+        changed.sort();
+        woken.sort();
+        for i in changed.into_iter().chain(woken) {
+            // Before the first that is less urgent: the tail of its level.
+            let level = self.tasks[i].level;
+            let less_urgent = |&j: &usize| self.tasks[j].level > level;
+            let place = self.ready.iter().position(less_urgent).unwrap_or(self.ready.len());
+            self.ready.insert(place, i);
+        }
+    }
+
+    /// "Then, once started, if nobody runs, the first ready task runs. If hold is
+    /// 0 and the first ready task is strictly more urgent than the running one,
+    /// they change places and the displaced task goes to the head of its level."
+    fn dispatch(&mut self) {
+        if !self.started || self.ready.is_empty() {
+            return;
+        }
+        let Some(old) = self.running else {
+            self.running = Some(self.ready.remove(0));
+            return;
+        };
+        let level = self.tasks[old].level;
+        if self.hold == 0 && self.tasks[self.ready[0]].level < level {
+            self.running = Some(self.ready.remove(0));
+            // Before the first that is no more urgent: the head of its level.
+            let no_more_urgent = |&j: &usize| self.tasks[j].level >= level;
+            let place = self.ready.iter().position(no_more_urgent).unwrap_or(self.ready.len());
+            self.ready.insert(place, old);
+        }
+    }
+}
+
+// ---- The record: the same state as plain numbers, columns by id ----
+
+/// No owner, nothing running, an unused place of a queue.
+pub const NONE: u8 = 255;
+
+#[repr(C)]
+#[derive(Clone, Debug, Default, PartialEq, Eq)]
+pub struct Queue {
+    pub ids: [u8; 16],
+    pub n: u8,
+}
+
+/// `wait` is 0 none, 1 mutex, 2 semaphore, 3 time; `object` the number of the
+/// mutex or semaphore, else 0; `due` the clock value at which a timed wait ends.
+#[repr(C)]
+#[derive(Clone, Debug, Default, PartialEq, Eq)]
+pub struct Tasks {
+    pub due: [u32; 16],
+    pub priority: [u8; 16],
+    pub level: [u8; 16],
+    pub outcome: [u8; 16],
+    pub wait: [u8; 16],
+    pub object: [u8; 16],
+    pub timed: [u8; 16],
+    pub n: u8,
+}
+
+#[repr(C)]
+#[derive(Clone, Debug, Default, PartialEq, Eq)]
+pub struct Mutexes {
+    pub kind: [u8; 8],
+    pub owner: [u8; 8],
+    pub n: u8,
+}
+
+#[repr(C)]
+#[derive(Clone, Debug, Default, PartialEq, Eq)]
+pub struct Semaphores {
+    pub count: [u32; 8],
+    pub maximum: [u32; 8],
+    pub n: u8,
+}
+
+#[repr(C)]
+#[derive(Clone, Debug, Default, PartialEq, Eq)]
+pub struct Record {
+    pub tasks: Tasks,
+    pub semaphores: Semaphores,
+    pub clock: u32,
+    pub mutexes: Mutexes,
+    pub ready: Queue,
+    pub waiting: Queue,
+    pub started: u8,
+    pub hold: u8,
+    pub running: u8,
+}
+
+/// The record of the fresh state; unused places of every record are as here.
+pub fn fresh() -> Record {
+    let mut r = Record::default();
+    r.mutexes.owner = [NONE; 8];
+    (r.ready.ids, r.waiting.ids) = ([NONE; 16], [NONE; 16]);
+    r.running = NONE;
+    r
+}
+
+/// A step on a record. 15: "the state handed in isn't sound"; it is left as it
+/// is, and the task to run is none.
+pub fn step(r: &Record, s: Step) -> (Record, Answer) {
+    if !is_sound(r) {
+        return (r.clone(), Answer { number: 15, value: 0, run: None });
+    }
+    let (next, answer) = from_record(r).step(s);
+    (to_record(&next), answer)
+}
+
+/// The record of a state.
+pub fn to_record(state: &State) -> Record {
+    let id = |i: Option<usize>| i.map_or(NONE, |i| i as u8);
+    let mut r = fresh();
+    for (i, task) in state.tasks.iter().enumerate() {
+        r.tasks.priority[i] = task.priority;
+        r.tasks.level[i] = task.level;
+        r.tasks.outcome[i] = task.outcome;
+        if let Some(Wait { object, left }) = task.wait {
+            (r.tasks.wait[i], r.tasks.object[i]) = match object {
+                Object::Mutex(m) => (1, m as u8),
+                Object::Semaphore(s) => (2, s as u8),
+                Object::Time => (3, 0),
+            };
+            if let Some(ticks) = left {
+                r.tasks.timed[i] = 1;
+                r.tasks.due[i] = state.clock.wrapping_add(ticks);
+            }
+        }
+    }
+    r.tasks.n = state.tasks.len() as u8;
+    for (i, mutex) in state.mutexes.iter().enumerate() {
+        r.mutexes.kind[i] = mutex.inheriting as u8;
+        r.mutexes.owner[i] = id(mutex.owner);
+    }
+    r.mutexes.n = state.mutexes.len() as u8;
+    for (i, semaphore) in state.semaphores.iter().enumerate() {
+        r.semaphores.count[i] = semaphore.count;
+        r.semaphores.maximum[i] = semaphore.maximum;
+    }
+    r.semaphores.n = state.semaphores.len() as u8;
+    for (queue, order) in [(&mut r.ready, &state.ready), (&mut r.waiting, &state.waiting)] {
+        for (place, &i) in order.iter().enumerate() {
+            queue.ids[place] = i as u8;
+        }
+        queue.n = order.len() as u8;
+    }
+    r.clock = state.clock;
+    r.started = state.started as u8;
+    r.hold = state.hold;
+    r.running = id(state.running);
+    r
+}
+
+/// The state of a sound record.
+pub fn from_record(r: &Record) -> State {
+    let id = |i: u8| if i == NONE { None } else { Some(i as usize) };
+    let order = |q: &Queue| q.ids[..q.n as usize].iter().map(|&i| i as usize).collect();
+    let wait = |i: usize| {
+        let object = match (r.tasks.wait[i], r.tasks.object[i] as usize) {
+            (0, _) => return None,
+            (1, m) => Object::Mutex(m),
+            (2, s) => Object::Semaphore(s),
+            _ => Object::Time,
+        };
+        // "wrapping subtract gives ticks left for each timed wait"
+        let left = r.tasks.due[i].wrapping_sub(r.clock);
+        Some(Wait { object, left: if r.tasks.timed[i] == 1 { Some(left) } else { None } })
+    };
+    let task = |i: usize| Task {
+        priority: r.tasks.priority[i],
+        level: r.tasks.level[i],
+        outcome: r.tasks.outcome[i],
+        wait: wait(i),
+    };
+    let mutex =
+        |i: usize| Mutex { inheriting: r.mutexes.kind[i] == 1, owner: id(r.mutexes.owner[i]) };
+    let semaphore =
+        |i: usize| Semaphore { count: r.semaphores.count[i], maximum: r.semaphores.maximum[i] };
+    State {
+        tasks: (0..r.tasks.n as usize).map(task).collect(),
+        mutexes: (0..r.mutexes.n as usize).map(mutex).collect(),
+        semaphores: (0..r.semaphores.n as usize).map(semaphore).collect(),
+        clock: r.clock,
+        started: r.started == 1,
+        hold: r.hold,
+        running: id(r.running),
+        ready: order(&r.ready),
+        waiting: order(&r.waiting),
+    }
+}
+
+/// "Sound state", on the numbers as they stand. Each part relies on those before.
+pub fn is_sound(r: &Record) -> bool {
+    tables_sound(r) && tasks_sound(r) && waits_sound(r) && orders_sound(r)
+}
+
+/// "Numbers within the ranges above"; "unused table places as in the fresh state";
+/// "owners exist"; "counts at most their maximum, maximum at least 1". (Clock and
+/// hold can't be out of their ranges.)
+fn tables_sound(r: &Record) -> bool {
+    let (t, m, s) = (&r.tasks, &r.mutexes, &r.semaphores);
+    let is_task = |i: u8| i < t.n;
+    let queue = |q: &Queue| {
+        (0..16).all(|at| if at < q.n as usize { is_task(q.ids[at]) } else { q.ids[at] == NONE })
+    };
+    let mutex = |i: usize| match i < m.n as usize {
+        true => m.kind[i] <= 1 && (m.owner[i] == NONE || is_task(m.owner[i])),
+        false => m.kind[i] == 0 && m.owner[i] == NONE,
+    };
+    let semaphore = |i: usize| match i < s.n as usize {
+        true => s.count[i] <= s.maximum[i] && s.maximum[i] >= 1,
+        false => s.count[i] == 0 && s.maximum[i] == 0,
+    };
+    let task = |i: usize| match i < t.n as usize {
+        true => t.priority[i] <= 31,
+        false => {
+            let bytes = [&t.priority, &t.level, &t.outcome, &t.wait, &t.object, &t.timed];
+            t.due[i] == 0 && bytes.iter().all(|column| column[i] == 0)
+        }
+    };
+    (t.n <= 16 && m.n <= 8 && s.n <= 8 && r.ready.n <= 16 && r.waiting.n <= 16)
+        && (r.started <= 1 && (r.running == NONE || is_task(r.running)))
+        && (queue(&r.ready) && queue(&r.waiting))
+        && ((0..8).all(mutex) && (0..8).all(semaphore) && (0..16).all(task))
+}
+
+/// What holds of each task by itself.
+fn tasks_sound(r: &Record) -> bool {
+    let t = &r.tasks;
+    (0..t.n as usize).all(|i| {
+        let times_in = |order: &[u8]| order.iter().filter(|&&j| j as usize == i).count();
+        let (ready, waiting) = (times_in(&r.ready.ids), times_in(&r.waiting.ids));
+        let running = (r.running as usize == i) as usize;
+        // "each task in exactly one of running, ready, waiting": in set-up as well,
+        // where all are ready
+        let one_place = ready + waiting + running == 1;
+        // "outcomes 0, 1, 20 or 21, and 1 exactly for waiting tasks"
+        let outcome = if waiting == 1 { &[1][..] } else { &[0, 20, 21] }.contains(&t.outcome[i]);
+        // "each waiter waits for an existing object that isn't available to it (mutex
+        // owned, semaphore at 0) or for time"; "each sleep is timed"
+        let object = t.object[i] as usize;
+        let wait = match t.wait[i] {
+            0 => waiting == 0 && object == 0 && t.timed[i] == 0,
+            1 => waiting == 1 && t.object[i] < r.mutexes.n && r.mutexes.owner[object] != NONE,
+            2 => waiting == 1 && t.object[i] < r.semaphores.n && r.semaphores.count[object] == 0,
+            3 => waiting == 1 && object == 0 && t.timed[i] == 1,
+            _ => false,
+        };
+        // "each timed wait has 1 to 2147483647 ticks left"; other due times are 0
+        let due = match t.timed[i] {
+            0 => t.due[i] == 0,
+            1 => (1..=LONGEST).contains(&t.due[i].wrapping_sub(r.clock)),
+            _ => false,
+        };
+        one_place && outcome && wait && due
+    })
+}
+
+/// "no ring of waits"; "stored levels as defined".
+fn waits_sound(r: &Record) -> bool {
+    let tasks = r.tasks.n as usize;
+    // Sixteen tasks allow fifteen moves from waiter to owner without coming back.
+    let comes_to_an_end = |mut i: usize| {
+        for _ in 0..TASKS {
+            if r.tasks.wait[i] != 1 {
+                return true;
+            }
+            i = r.mutexes.owner[r.tasks.object[i] as usize] as usize;
+        }
+        false
+    };
+    (0..tasks).all(comes_to_an_end) && (0..tasks).all(|i| r.tasks.level[i] == defined_level(r, i))
+}
+
+/// The level of a task by the definition, "as far as it goes"; without a ring of
+/// waits it comes to an end.
+fn defined_level(r: &Record, i: usize) -> u8 {
+    let lifts = |&j: &usize| {
+        let m = r.tasks.object[j] as usize;
+        r.tasks.wait[j] == 1 && r.mutexes.kind[m] == 1 && r.mutexes.owner[m] as usize == i
+    };
+    let waiters = (0..r.tasks.n as usize).filter(lifts);
+    waiters.map(|j| defined_level(r, j)).fold(r.tasks.priority[i], u8::min)
+}
+
+/// What holds of the orders, and in each phase.
+fn orders_sound(r: &Record) -> bool {
+    let level = |i: u8| r.tasks.level[i as usize];
+    let ready = &r.ready.ids[..r.ready.n as usize];
+    // "ready order ascending by level"
+    let ascending = ready.windows(2).all(|w| level(w[0]) <= level(w[1]));
+    let phase = match (r.started == 1, r.running == NONE) {
+        // "once started, a task runs if any is ready; hold above 0 only with a running
+        // task"
+        (true, true) => ready.is_empty() && r.hold == 0,
+        // "at hold 0 none ready is more urgent than the running one"
+        (true, false) => r.hold > 0 || ready.iter().all(|&i| level(i) >= level(r.running)),
+        // "In set-up: clock 0, hold 0, nothing running, waiting or owned, outcomes 0,
+        // every task ready, equal levels by id."
+        (false, running_none) => {
+            (r.clock == 0 && r.hold == 0 && running_none && r.waiting.n == 0)
+                && r.mutexes.owner.iter().all(|&owner| owner == NONE)
+                && r.tasks.outcome.iter().all(|&outcome| outcome == 0)
+                && r.ready.n == r.tasks.n
+                && ready.windows(2).all(|w| level(w[0]) < level(w[1]) || w[0] < w[1])
+        }
+    };
+    ascending && phase
+}

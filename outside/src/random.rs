@@ -1,0 +1,155 @@
+//! Random steps, lines and scripts, the same for the same seed.
+
+use crate::kernel::{Object, State, Step, Task, Wait, FOREVER, LONGEST};
+use crate::script::{line_on_state, parse, text};
+
+/// The generator known as splitmix64.
+pub struct Random(pub u64);
+
+impl Random {
+    pub fn next(&mut self) -> u64 {
+        self.0 = self.0.wrapping_add(0x9e37_79b9_7f4a_7c15);
+        let mut z = self.0;
+        z = (z ^ (z >> 30)).wrapping_mul(0xbf58_476d_1ce4_e5b9);
+        z = (z ^ (z >> 27)).wrapping_mul(0x94d0_49bb_1331_11eb);
+        z ^ (z >> 31)
+    }
+
+    pub fn below(&mut self, n: usize) -> usize {
+        (self.next() % n as u64) as usize
+    }
+
+    pub fn one_in(&mut self, n: usize) -> bool {
+        self.below(n) == 0
+    }
+
+    fn of(&mut self, numbers: &[u32]) -> u32 {
+        numbers[self.below(numbers.len())]
+    }
+
+    /// Any number, edges often.
+    fn odd(&mut self) -> u32 {
+        let any = self.next() as u32;
+        self.of(&[any, any % 40, 0, 2, 8, 16, 32, 255, 256, LONGEST, LONGEST + 1, FOREVER])
+    }
+
+    /// A number below n, now and then any number.
+    fn id(&mut self, n: usize) -> u32 {
+        match n {
+            0 => self.odd(),
+            _ if self.one_in(30) => self.odd(),
+            _ => self.below(n) as u32,
+        }
+    }
+
+    fn time(&mut self) -> u32 {
+        let few = 1 + self.below(12) as u32;
+        match self.below(20) {
+            0..=1 => 0,
+            2..=13 => few,
+            14..=17 => FOREVER,
+            18 => self.of(&[LONGEST - 1, LONGEST]),
+            _ => self.of(&[LONGEST + 1, FOREVER - 1, self.0 as u32]),
+        }
+    }
+}
+
+/// A step that mostly makes sense in the state.
+pub fn step(random: &mut Random, state: &State) -> Step {
+    let set_up = if random.one_in(50) { state.started } else { !state.started };
+    if set_up {
+        let most = random.odd().max(1);
+        return match random.below(40) {
+            0..=15 if random.one_in(2) => Step::Task(random.below(4) as u32),
+            0..=15 => Step::Task(random.id(32)),
+            16..=26 => Step::Mutex(if random.one_in(4) { random.id(2) } else { 1 }),
+            27..=32 if random.one_in(3) => Step::Sem(random.odd(), most),
+            27..=32 => Step::Sem(random.below(2) as u32, 1 + random.below(3) as u32),
+            33..=36 => Step::Level(random.id(state.tasks.len())),
+            37 => Step::Outcome(random.id(state.tasks.len())),
+            _ if state.tasks.len() < 3 && !random.one_in(20) => Step::Task(random.id(32)),
+            _ => Step::Start,
+        };
+    }
+    let mutex = random.id(state.mutexes.len());
+    let semaphore = random.id(state.semaphores.len());
+    let owned = state.mutexes.iter().position(|m| m.owner.is_some() && m.owner == state.running);
+    let idle = state.running.is_none() && !random.one_in(10);
+    match if idle { 60 + random.below(40) } else { random.below(100) } {
+        0..=24 => Step::Lock(mutex, random.time()),
+        25..=36 if random.one_in(2) => Step::Unlock(owned.map_or(mutex, |m| m as u32)),
+        25..=36 => Step::Unlock(mutex),
+        37..=43 => Step::Pend(semaphore, random.time()),
+        44..=48 => Step::Sleep(sleep_time(random, state, owned.is_none())),
+        49..=53 => Step::Yield,
+        54..=55 if state.hold > 0 && !random.one_in(3) => Step::Free,
+        54..=55 => Step::Hold,
+        56..=59 => Step::Free,
+        60..=67 => Step::Post(semaphore),
+        68..=69 => Step::Flush(semaphore),
+        70..=84 => Step::Tick,
+        85..=92 => Step::Level(random.id(state.tasks.len())),
+        _ => Step::Outcome(random.id(state.tasks.len())),
+    }
+}
+
+/// A time to sleep. Few tasks, and none that owns a mutex, sleep till long after the
+/// script's end, so that long scripts stay alive.
+fn sleep_time(random: &mut Random, state: &State, owns_none: bool) -> u32 {
+    let is_long = |t: u32| (1000..=LONGEST).contains(&t);
+    let asleep = |task: &&Task| match task.wait {
+        Some(Wait { object: Object::Time, left: Some(t) }) => is_long(t),
+        _ => false,
+    };
+    let long_sleepers = state.tasks.iter().filter(asleep).count();
+    match random.time() {
+        t if is_long(t) && !(owns_none && 3 * long_sleepers + 3 <= state.tasks.len()) => 5,
+        t => t,
+    }
+}
+
+/// A line with something wrong, or at least changed, in it. It has no LF.
+fn damaged(random: &mut Random, good: &[u8]) -> Vec<u8> {
+    let mut line = good.to_vec();
+    let at = random.below(line.len());
+    match random.below(10) {
+        0 => line.clear(),
+        1 => drop(line.remove(at)),
+        2 => line[at] = random.next() as u8,
+        3 => line.insert(at, b"\t 0+-9a\r"[random.below(8)]),
+        4 => line.push(b"\t 0\r\0"[random.below(5)]),
+        5 => line.extend(b"\t1"),
+        6 => line.resize(79 + random.below(4), b'0'),
+        7 => line.resize(100 + random.below(70_000), b' '),
+        8 => line[0] = line[0].to_ascii_uppercase(),
+        _ => line = b"sleep\t4294967296".to_vec(),
+    }
+    line.retain(|&byte| byte != b'\n');
+    line
+}
+
+/// A script: the header and so many lines.
+pub fn script(seed: u64, lines: usize) -> Vec<u8> {
+    let mut random = Random(seed);
+    let mut state = State::default();
+    let mut script = b"kernel\t1".to_vec();
+    for _ in 0..lines {
+        let good = text(step(&mut random, &state));
+        let mut line = good.into_bytes();
+        if random.one_in(40) {
+            let other = damaged(&mut random, &line);
+            // A digit less may have made an over-long time a very long sleep.
+            if !matches!(parse(&other), Some(Step::Sleep(_))) {
+                line = other;
+            }
+        }
+        state = line_on_state(&state, &line).0;
+        script.push(b'\n');
+        script.extend(line);
+    }
+    // A last line without LF counts as well; an empty one would not be there.
+    if script.ends_with(b"\n") || !random.one_in(4) {
+        script.push(b'\n');
+    }
+    script
+}
