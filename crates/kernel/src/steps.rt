@@ -219,8 +219,8 @@ pub fn unlock(s: State, m: u32) -> Out
     let t = s.tasks;
     let kinds = t.wait;
     let objects = t.object;
-    let levels = t.level;
-    let w = queues::best_waiter(s.waiting, kinds, objects, levels, ON_MUTEX, j);
+    let urgency = t.level;
+    let w = queues::best_waiter(s.waiting, kinds, objects, urgency, ON_MUTEX, j);
     let r = pass(s, j, w);
     accepted(r, 0, 0)
 }
