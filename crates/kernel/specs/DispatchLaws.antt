@@ -10,19 +10,19 @@ use native.Mathlib.Decide.{ℕ-discrete, decLt}
 use lib.Dec.{ltb, eqb}
 use lib.ListN.{length, List·getD-eq-default, replicate, getD-replicate}
 use lib.Seq.{getD-set-same, getD-set-other}
-use borrow.Author.Tests.{eqb-true, lt-ltb, le-ltb, ne-eqb}
+use borrow.Author.Tests.{lt-ltb, ne-eqb}
 use Rattle.lists.specs.Test.{_and_}
 use Rattle.lists.specs.Count.{eqn, occ, below, opt}
 use Rattle.lists.specs.Order.{keep, insertHead}
 use Rattle.lists.specs.Table.{pad}
-use Rattle.lists.specs.TestLaws.{which, true-and, false-and, none-some}
+use Rattle.lists.specs.TestLaws.{which, true-and, false-and}
 use Rattle.lists.specs.CountLaws.{eqn-at, eqn-other, in-below, below-le, pigeonhole}
 use Rattle.lists.specs.OrderLaws.{keep-all}
 use Rattle.chains.specs.Chain.{on}
 use Rattle.rules.specs.Sizes.{maxTasks}
 use Rattle.rules.specs.Tables.{tasks}
 use Rattle.rules.specs.Settle.{meet, dispatch}
-use Rattle.rules.specs.Invariant.{Facts, Places, Started}
+use Rattle.rules.specs.Invariant.{Facts, Places}
 use Rattle.queues.specs.Queue.{places, noId, queueOf, keyOf, inserted, idOf}
 use Rattle.queues.specs.QueueLaws.{head-queueOf, kept-queueOf}
 use Rattle.kernel.specs.Record.{packTasks, pack}
@@ -58,10 +58,6 @@ first-leaves x l h e = kept-queueOf (single x) 0 (x ∷ l) ∙ ap queueOf (rw (o
 
     on : (y : ℕ) → 1 ≤ occ y l → eqb (keyOf (single x) y) 0 ≡ true
     on y m = rw (single-at x y h, eqn-other x y (λ q. omega (arith, e, ap (λ z. occ z l) q))) refl
-
-pub first-id : (x : ℕ) (l : List ℕ) → firstId (queueOf (x ∷ l)) ≡ x
-unfolding queueOf pad
-first-id x l = refl
 
 -- what the code does in each case
 module _ (k : State) (on : eqb (k .started) 0 ≡ false) where
@@ -179,19 +175,3 @@ dispatch-pack s F P = elim (which (s .started)) [
   | inl e ↦ meet-pack s F e (s .running) (s .ready) P ∙ ap pack (sym (dispatch-on s e))
   | inr e ↦ case-off (pack s) (rw e refl) ∙ ap pack (sym (dispatch-off s e))
 ]
-
--- a started state whose running task is the right one stays
-pub dispatch-idle : (s : Model) → (s .started ≡ true → Started s) → dispatch s ≡ s
-unfolding meet occ _and_
-dispatch-idle s h = elim (which (s .started)) [
-  | inl e ↦ dispatch-on s e ∙ go (s .running) (s .ready) refl refl (h e)
-  | inr e ↦ dispatch-off s e
-]
-  where
-    go : (r : Option ℕ) (l : List ℕ) → s .running ≡ r → s .ready ≡ l → Started s → meet s r l ≡ placed s r l
-    go r [] e f S = refl
-    go none (x ∷ l) e f S = (let q = S .runs x (rw f (omega (arith, eqn-at x x refl))) in none-some e (q .1))
-    go (some r) (x ∷ l) e f S = meet-stays s r x l (elim (which (eqb (s .hold) 0)) [
-      | inl u ↦ rw u (le-ltb (levelOf s x) (levelOf s r) (S .urgent (eqb-true (s .hold) 0 u) x r (rw f (omega (arith, eqn-at x x refl))) e))
-      | inr u ↦ false-and _ _ u
-    ])

@@ -6,7 +6,7 @@ use mathlib.Core.Logic.{inl}
 use mathlib.Core.Option.{Option, none, some}
 use Prim.Native.Nat.{ℕ, _<_}
 use native.Mathlib.Omega.{arith}
-use lib.Dec.{eqb}
+use lib.Dec.{ltb, eqb}
 use lib.ListN.{length, replicate}
 use borrow.Author.Tests.{leb-false, not-true, not-false, eq-eqb, ne-eqb}
 use Rattle.lists.specs.Test.{_and_, someb, holds}
@@ -35,9 +35,9 @@ use Rattle.kernel.specs.FlagLaws.{flag-one, zeros, single-flags}
 use Rattle.kernel.specs.WaitLaws.{best-mutex, chain-pack}
 use Rattle.kernel.specs.EffectLaws.{member-ended, woke-pack, blocked-pack}
 use Rattle.kernel.specs.ObjectLaws.{owner-set, level-same, lends-give}
-use Rattle.kernel.specs.RowLaws.{ruled, by-rows, on-row, on-accept, held-on, held-off, called-some, id-some, running-below, on-caller}
+use Rattle.kernel.specs.RowLaws.{ruled, by-rows, on-row, on-accept, called-some, id-some, running-below, on-caller}
 use Rattle.kernel.specs.FinishLaws.{quiet-pack, settled-finish}
-use Rattle.kernel.specs.WaitStepLaws.{time-test, best-named, best-in, best-below}
+use Rattle.kernel.specs.WaitStepLaws.{may-wait, time-test, best-named, best-in, best-below}
 use Rattle.kernel.specs.declared.State.{State}  -- keep
 use Rattle.kernel.specs.declared.Out.{Out}  -- keep
 use Rattle.kernel.specs.Machine.{withMutexes, passed}  -- keep
@@ -134,14 +134,13 @@ module _ (s : Model) (I : Inv s) where
     abbrev waits-by : List ℕ → ℕ → Out
     waits-by chain x =
         cond (eqb t 0) (refuse (pack s) 3 0)
-        (cond (eqb ((pack s) .hold) 0)
+        (cond (ltb 0 ((pack s) .hold)) (refuse (pack s) 11 0)
         (cond (member x chain) (refuse (pack s) 12 (length (before x chain)))
-        (accept (dispatched (settled (blockedOn (pack s) x onMutex m t) (replicate maxTasks 0))) 1 (length (before x chain))))
-        (refuse (pack s) 11 0))
+        (accept (dispatched (settled (blockedOn (pack s) x onMutex m t) (replicate maxTasks 0))) 1 (length (before x chain)))))
 
     waits-same : lockWaits (pack s) m t ≡ waits-by (chainOf (s .tables) m) r
     unfolding lockWaits pack packTasks
-    waits-same = ap (λ c. waits-by c ((pack s) .running)) (chain-pack s (I .facts) m) ∙ ap (waits-by (chainOf (s .tables) m)) (id-some (s .running) r run)
+    waits-same = may-wait (pack s) t _ ∙ ap (λ c. waits-by c ((pack s) .running)) (chain-pack s (I .facts) m) ∙ ap (waits-by (chainOf (s .tables) m)) (id-some (s .running) r run)
 
     ring-finish : (o : ℕ) → ownerOf (s .tables) m ≡ some o → eqb t 0 ≡ false → closesRing (s .tables) r m ≡ false
         → dispatched (settled (blockedOn (pack s) r onMutex m t) (replicate maxTasks 0)) ≡ pack (dispatch (settle (levelOf s) ((callerWaits s r (mutexOf m) t (linksOf (s .tables) r m)) .state) []))
@@ -167,7 +166,7 @@ module _ (s : Model) (I : Inv s) where
         nobody i q = none-some e (awaited-owned (s .tables) m (waitOf (s .tables) i) (I .facts .blocked i) q .1)
     lock-rest (some o) e = skipped _ _ _ (ne-eqb o noId (λ q. omega (arith, I .facts .owners m o e, I .facts .few-tasks))) ∙ waits-same
         ∙ on-row s (lock m t) _ _ refl (λ f. chosen _ _ _ f) (λ f. skipped _ _ _ f
-        ∙ on-row s (lock m t) _ _ refl (λ g. skipped _ _ _ (held-on (s .hold) g)) (λ g. chosen _ _ _ (held-off (s .hold) g)
+        ∙ on-row s (lock m t) _ _ refl (λ g. chosen _ _ _ g) (λ g. skipped _ _ _ g
         ∙ on-row s (lock m t) _ _ refl
         (λ k. chosen _ _ _ (sym ring-test ∙ k) ∙ ap (refuse (pack s) 12) (sym (links-some s m (s .running) r run)))
         (λ k. skipped _ _ _ (sym ring-test ∙ k)

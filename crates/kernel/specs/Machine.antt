@@ -225,6 +225,14 @@ refuse k number value = record { state = k; answer = Refused number value (k .ru
 unfoldable pub isTime : ℕ → Bool
 isTime t = cond (leb t maxTicks) true (eqb t forever)
 
+-- why a caller that would wait may not, or 0
+unfoldable pub waitRefusal : ℕ → ℕ → ℕ
+waitRefusal held t = cond (eqb t 0) 3 (cond (ltb 0 held) 11 0)
+
+-- a step by which the caller waits
+unfoldable pub mayWait : State → ℕ → Out → Out
+mayWait k t o = cond (eqb (waitRefusal (k .hold) t) 0) o (refuse k (waitRefusal (k .hold) t) 0)
+
 unfoldable pub taskStep : State → ℕ → Out
 taskStep k p =
     cond (eqb (k .started) 0)
@@ -260,11 +268,9 @@ calledBy k o = cond (eqb (k .started) 0) (refuse k 4 0) (cond (eqb (k .running) 
 unfoldable pub lockWaits : State → ℕ → ℕ → Out
 lockWaits k m t =
     let chain = chainFrom (filled maxTasks (nextAt (k .tasks) (k .mutexes))) (ownerAt (k .mutexes) m) (k .tasks .n) in
-    cond (eqb t 0) (refuse k 3 0)
-    (cond (eqb (k .hold) 0)
+    mayWait k t
     (cond (member (k .running) chain) (refuse k 12 (length (before (k .running) chain)))
     (accept (dispatched (settled (blockedOn k (k .running) onMutex m t) (replicate maxTasks 0))) 1 (length (before (k .running) chain))))
-    (refuse k 11 0))
 
 unfoldable pub lockStep : State → ℕ → ℕ → Out
 lockStep k m t = calledBy k
@@ -291,8 +297,7 @@ pendStep k j t = calledBy k
     (cond (leb (k .semaphores .n) j) (refuse k 6 0)
     (cond (isTime t)
     (cond (eqb (countAt (k .semaphores) j) 0)
-    (cond (eqb t 0) (refuse k 3 0)
-    (cond (eqb (k .hold) 0) (accept (dispatched (blockedOn k (k .running) onSemaphore j t)) 1 0) (refuse k 11 0)))
+    (mayWait k t (accept (dispatched (blockedOn k (k .running) onSemaphore j t)) 1 0))
     (accept (withSemaphores k (countSet (k .semaphores) j (countAt (k .semaphores) j - 1))) 0 0))
     (refuse k 7 0)))
 

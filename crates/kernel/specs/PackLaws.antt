@@ -43,10 +43,6 @@ levelColumn t = pad maxTasks 0 (filled (tasks t) (levelIn t))
 unfoldable pub packWith : List ℕ → Model → State
 packWith lv s = withTasks (pack s) (withLevel ((pack s) .tasks) lv)
 
-pub pack-with : (s : Model) → pack s ≡ packWith (levelColumn (s .tables)) s
-unfolding pack packWith packTasks levelColumn
-pack-with s = refl
-
 -- these are the places of a wait
 abbrev Codes : ℕ → Option Wait → ℕ → ℕ → ℕ → ℕ → Type 0
 Codes clock w kind object timed due = (kindCode w ≡ kind) × (objectCode w ≡ object) × (timedCode w ≡ timed) × (dueCode clock w ≡ due)

@@ -179,10 +179,6 @@ module _ (s : Model) (F : Facts (s .tables)) where
   unfolding pack
   next-pack = next-table (s .tables) F (s .clock) ((packTasks (s .tables) (s .clock)) .level)
 
-  pub lends-pack : (lv : List ℕ) (i : ℕ) → nextIn (filled maxTasks (lendsAt ((packWith lv s) .tasks) ((packWith lv s) .mutexes))) i ≡ lends (s .tables) i
-  unfolding pack packWith
-  lends-pack lv = lends-table (s .tables) F (s .clock) lv
-
   pub new-levels : (lv : List ℕ) → newLevels ((packWith lv s) .tasks) ((packWith lv s) .mutexes) ≡ levelColumn (s .tables)
   unfolding pack packWith
   new-levels lv = levels-table (s .tables) F (s .clock) lv

@@ -30,7 +30,7 @@ use Rattle.rules.specs.StepLaws.{left-sem, left-sleep, sleep-no-mutex, caller-i
 use Rattle.queues.specs.Queue.{noId, keyOf, idOf}
 use Rattle.kernel.specs.Record.{onSemaphore, onTime, awaitedKind, awaitedObject, kindCode, packTasks, packMutexes, packSemaphores, pack}
 use Rattle.kernel.specs.StepRecord.{outFor}
-use Rattle.kernel.specs.Machine.{single, waiterFlag, dispatched, woke, lined, blockedOn, countAt, maximumAt, countSet, accept, refuse, isTime, pendStep, creditStep, postStep, flushStep, sleepStep}
+use Rattle.kernel.specs.Machine.{single, waiterFlag, dispatched, woke, lined, blockedOn, countAt, maximumAt, countSet, accept, refuse, isTime, waitRefusal, mayWait, pendStep, creditStep, postStep, flushStep, sleepStep}
 use Rattle.kernel.specs.PackLaws.{levelColumn, packWith}
 use Rattle.kernel.specs.ColumnLaws.{chosen, skipped}
 use Rattle.kernel.specs.FlagLaws.{Flags, flag-one, single-flags}
@@ -64,6 +64,16 @@ sleep-test t = elim (decLt 0 t) [
   ]
   | no h ↦ rw (eq-eqb t 0 (omega arith), le-ltb 0 t (omega arith)) refl
 ]
+
+-- the rows of a caller that would wait
+pub may-wait : (k : State) (t : ℕ) (o : Out) → mayWait k t o ≡ cond (eqb t 0) (refuse k 3 0) (cond (ltb 0 (k .hold)) (refuse k 11 0) o)
+unfolding mayWait waitRefusal
+may-wait k t o = go (eqb t 0) (ltb 0 (k .hold))
+  where
+    go : (a b : Bool) → cond (eqb (cond a 3 (cond b 11 0)) 0) o (refuse k (cond a 3 (cond b 11 0)) 0) ≡ cond a (refuse k 3 0) (cond b (refuse k 11 0) o)
+    go true b = refl
+    go false true = refl
+    go false false = refl
 
 -- who waits for a semaphore waits for no mutex
 pub sem-no-mutex : (w : Option Wait) (k : ℕ) → waitIsFor w (semOf k) ≡ true → mutexAwaited w ≡ none
@@ -116,11 +126,11 @@ module _ (s : Model) (I : Inv s) where
 
   module _ (k t r : ℕ) (run : s .running ≡ some r) (there : noSuchSem s k ≡ false) (valid : isWaitingTime t ≡ true) where
     pend-waits : noCredit s k ≡ true → cond (eqb t 0) (refuse (pack s) 3 0)
-        (cond (eqb ((pack s) .hold) 0) (accept (dispatched (blockedOn (pack s) ((pack s) .running) onSemaphore k t)) 1 0) (refuse (pack s) 11 0))
+        (cond (ltb 0 ((pack s) .hold)) (refuse (pack s) 11 0) (accept (dispatched (blockedOn (pack s) ((pack s) .running) onSemaphore k t)) 1 0))
         ≡ ruled s (pend k t) ((3 when noCredit s k and eqb t 0) ∷ (11 when noCredit s k and held s) ∷ [])
     unfolding pack effect callerWaits awaitedKind awaitedObject mutexIn pendBy
     pend-waits none-left = on-row s (pend k t) _ _ refl (λ e. chosen _ _ _ (and-r _ _ e)) (λ e. skipped _ _ _ (and-false _ _ none-left e)
-        ∙ on-row s (pend k t) _ _ refl (λ f. skipped _ _ _ (held-on (s .hold) (and-r _ _ f))) (λ f. chosen _ _ _ (held-off (s .hold) (and-false _ _ none-left f))
+        ∙ on-row s (pend k t) _ _ refl (λ f. chosen _ _ _ (and-r _ _ f)) (λ f. skipped _ _ _ (and-false _ _ none-left f)
         ∙ on-accept s (pend k t) (callerWaits s r (semOf k) t 0) _ (called-some s (s .running) (pendBy s k t) r run ∙ chosen _ _ _ none-left) refl
         (wait-finish r (semOf k) t 0 run (leb-false (semaphores (s .tables)) k there, eqb-true (countOf (s .tables) k) 0 none-left)
         (left-sem k t valid (and-false _ _ none-left e)) (λ m q. sem-other q) refl)))
@@ -146,7 +156,7 @@ module _ (s : Model) (I : Inv s) where
   pend-pack k t = by-rows s (pend k t) (on-caller s I (pend k t) _ (λ r a b run. on-row s (pend k t) _ _ refl (λ e. chosen _ _ _ e) (λ e. skipped _ _ _ e
       ∙ on-row s (pend k t) _ _ refl (λ f. skipped _ _ _ (time-test t ∙ not-true (isWaitingTime t) f)) (λ f. chosen _ _ _ (time-test t ∙ not-false (isWaitingTime t) f)
       ∙ elim (which (noCredit s k)) [
-        | inl q ↦ chosen _ _ _ (count-test k ∙ q) ∙ pend-waits k t r run e (not-false (isWaitingTime t) f) q
+        | inl q ↦ chosen _ _ _ (count-test k ∙ q) ∙ may-wait (pack s) t _ ∙ pend-waits k t r run e (not-false (isWaitingTime t) f) q
         | inr q ↦ skipped _ _ _ (count-test k ∙ q) ∙ pend-takes k t r run e (not-false (isWaitingTime t) f) q
       ]))))
 

@@ -8,12 +8,15 @@ ghost use Rattle.kernel.specs.GoodRecord.{Typed};
 ghost use Rattle.kernel.specs.Machine.{countAt, maximumAt};
 ghost use Rattle.kernel.specs.MachineLaws.{machineStep};
 use crate::Answer;
+use crate::MUTEXES;
 use crate::Mutexes;
 use crate::NONE;
 use crate::Out;
 use crate::Request;
+use crate::SEMAPHORES;
 use crate::Semaphores;
 use crate::State;
+use crate::TASKS;
 use crate::Tasks;
 use crate::sound;
 use crate::steps;
@@ -24,27 +27,27 @@ pub fn fresh() -> State
     ensures { λ r. ⌜ r ≡ freshRecord ⌝ }
 {
     let none = Queue {
-        ids: [NONE; 16],
+        ids: [NONE; TASKS],
         n: 0,
     };
     let tasks = Tasks {
-        due: [0u32; 16],
-        priority: [0u8; 16],
-        level: [0u8; 16],
-        outcome: [0u8; 16],
-        wait: [0u8; 16],
-        object: [0u8; 16],
-        timed: [0u8; 16],
+        due: [0u32; TASKS],
+        priority: [0u8; TASKS],
+        level: [0u8; TASKS],
+        outcome: [0u8; TASKS],
+        wait: [0u8; TASKS],
+        object: [0u8; TASKS],
+        timed: [0u8; TASKS],
         n: 0,
     };
     let mutexes = Mutexes {
-        kind: [0u8; 8],
-        owner: [NONE; 8],
+        kind: [0u8; MUTEXES],
+        owner: [NONE; MUTEXES],
         n: 0,
     };
     let semaphores = Semaphores {
-        count: [0u32; 8],
-        maximum: [0u32; 8],
+        count: [0u32; SEMAPHORES],
+        maximum: [0u32; SEMAPHORES],
         n: 0,
     };
     State {

@@ -10,15 +10,33 @@ pub use api::fresh;
 pub use api::is_sound;
 pub use api::step;
 
-// How many of each there can be.
-pub const TASKS: usize = 16;
+// How many of each there can be. A queue has a place for each task.
+pub const TASKS: usize = queues::PLACES;
 
 pub const MUTEXES: usize = 8;
 
 pub const SEMAPHORES: usize = 8;
 
+// The same, as the record counts them.
+pub const MAX_TASKS: u8 = TASKS as u8;
+
+pub const MAX_MUTEXES: u8 = MUTEXES as u8;
+
+pub const MAX_SEMAPHORES: u8 = SEMAPHORES as u8;
+
+// How many priorities and levels there are.
+pub const LEVELS: u8 = queues::LEVELS;
+
+// How many kinds of mutexes there are, and the kind that lends its waiters' levels to the owner.
+pub const KINDS: u8 = 2;
+
+pub const INHERITING: u8 = 1;
+
+// The greatest hold depth.
+pub const MAX_HOLD: u8 = 255;
+
 // Stands for no task.
-pub const NONE: u8 = 255;
+pub const NONE: u8 = queues::NONE;
 
 // What a task waits for: nothing, a mutex, a semaphore, time.
 pub const NO_WAIT: u8 = 0;
@@ -46,27 +64,27 @@ pub const FOREVER: u32 = 4294967295;
 // The tasks, one place in each table for each. `due` is the clock at which a timed wait ends.
 #[repr(C)]
 pub struct Tasks {
-    pub due: [u32; 16],
-    pub priority: [u8; 16],
-    pub level: [u8; 16],
-    pub outcome: [u8; 16],
-    pub wait: [u8; 16],
-    pub object: [u8; 16],
-    pub timed: [u8; 16],
+    pub due: [u32; TASKS],
+    pub priority: [u8; TASKS],
+    pub level: [u8; TASKS],
+    pub outcome: [u8; TASKS],
+    pub wait: [u8; TASKS],
+    pub object: [u8; TASKS],
+    pub timed: [u8; TASKS],
     pub n: u8,
 }
 
 #[repr(C)]
 pub struct Mutexes {
-    pub kind: [u8; 8],
-    pub owner: [u8; 8],
+    pub kind: [u8; MUTEXES],
+    pub owner: [u8; MUTEXES],
     pub n: u8,
 }
 
 #[repr(C)]
 pub struct Semaphores {
-    pub count: [u32; 8],
-    pub maximum: [u32; 8],
+    pub count: [u32; SEMAPHORES],
+    pub maximum: [u32; SEMAPHORES],
     pub n: u8,
 }
 

@@ -10,16 +10,15 @@ use crate::TASKS;
 use crate::Tasks;
 
 // A mutex gets another owner.
-pub fn set_owner(m: Mutexes, j: u8, owner: u8) -> Mutexes
+pub fn set_owner(mut m: Mutexes, j: u8, owner: u8) -> Mutexes
     ensures { λ r. ⌜ r ≡ ownerSet m j owner ⌝ }
 {
     let i = j as usize;
     if MUTEXES <= i {
         return m;
     }
-    let mut r = m;
-    r.owner[i] = owner;
-    r
+    m.owner[i] = owner;
+    m
 }
 
 pub fn count_at(c: Semaphores, j: u8) -> u32
@@ -43,58 +42,54 @@ pub fn maximum_at(c: Semaphores, j: u8) -> u32
 }
 
 // A semaphore gets another count.
-pub fn set_count(c: Semaphores, j: u8, count: u32) -> Semaphores
+pub fn set_count(mut c: Semaphores, j: u8, count: u32) -> Semaphores
     ensures { λ r. ⌜ r ≡ countSet c j count ⌝ }
 {
     let i = j as usize;
     if SEMAPHORES <= i {
         return c;
     }
-    let mut r = c;
-    r.count[i] = count;
-    r
+    c.count[i] = count;
+    c
 }
 
 // One task more; a full table stays.
-pub fn add_task(t: Tasks, priority: u8) -> Tasks
+pub fn add_task(mut t: Tasks, priority: u8) -> Tasks
     ensures { λ r. ⌜ r ≡ taskAdded t priority ⌝ }
 {
     let i = t.n as usize;
     if TASKS <= i {
         return t;
     }
-    let mut r = t;
-    r.priority[i] = priority;
-    r.level[i] = priority;
-    r.n = t.n + 1;
-    r
+    t.priority[i] = priority;
+    t.level[i] = priority;
+    t.n += 1;
+    t
 }
 
 // One mutex more; a full table stays.
-pub fn add_mutex(m: Mutexes, kind: u8) -> Mutexes
+pub fn add_mutex(mut m: Mutexes, kind: u8) -> Mutexes
     ensures { λ r. ⌜ r ≡ mutexAdded m kind ⌝ }
 {
     let i = m.n as usize;
     if MUTEXES <= i {
         return m;
     }
-    let mut r = m;
-    r.kind[i] = kind;
-    r.n = m.n + 1;
-    r
+    m.kind[i] = kind;
+    m.n += 1;
+    m
 }
 
 // One semaphore more; a full table stays.
-pub fn add_semaphore(c: Semaphores, count: u32, maximum: u32) -> Semaphores
+pub fn add_semaphore(mut c: Semaphores, count: u32, maximum: u32) -> Semaphores
     ensures { λ r. ⌜ r ≡ semAdded c count maximum ⌝ }
 {
     let i = c.n as usize;
     if SEMAPHORES <= i {
         return c;
     }
-    let mut r = c;
-    r.count[i] = count;
-    r.maximum[i] = maximum;
-    r.n = c.n + 1;
-    r
+    c.count[i] = count;
+    c.maximum[i] = maximum;
+    c.n += 1;
+    c
 }

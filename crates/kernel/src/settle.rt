@@ -6,12 +6,13 @@ use crate::FOREVER;
 use crate::Mutexes;
 use crate::NONE;
 use crate::State;
+use crate::TASKS;
 use crate::Tasks;
 use crate::tables;
 use queues::Queue;
 
 // Every task's level, as the rules define it.
-pub fn new_levels(t: Tasks, m: Mutexes) -> [u8; 16]
+pub fn new_levels(t: Tasks, m: Mutexes) -> [u8; TASKS]
     ensures { λ r. ⌜ r ≡ newLevels t m ⌝ }
 {
     let lends = tables::lends_of(t, m);
@@ -20,11 +21,11 @@ pub fn new_levels(t: Tasks, m: Mutexes) -> [u8; 16]
 }
 
 // The ready order by the new levels: those whose level changed, and then the woken ones, by id at the tail of their level.
-fn resettle(q: Queue, old: [u8; 16], new: [u8; 16], woken: [u8; 16], n: u8) -> Queue
+fn resettle(q: Queue, old: [u8; TASKS], new: [u8; TASKS], woken: [u8; TASKS], n: u8) -> Queue
     ensures { λ r. ⌜ r ≡ resettled q old new woken n ⌝ }
 {
     let changed = tables::differ(old, new);
-    let there = queues::count_in([0u8; 16], q);
+    let there = queues::count_in([0u8; TASKS], q);
     let moved = tables::both(changed, there);
     let stay = queues::keep_flagged(q, changed, 0);
     let back = queues::insert_flagged(stay, new, moved, n);
@@ -32,21 +33,17 @@ fn resettle(q: Queue, old: [u8; 16], new: [u8; 16], woken: [u8; 16], n: u8) -> Q
 }
 
 // Levels are as defined, and the ready order follows them.
-pub fn settle(s: State, woken: [u8; 16]) -> State
+pub fn settle(mut s: State, woken: [u8; TASKS]) -> State
     ensures { λ r. ⌜ r ≡ settled s woken ⌝ }
 {
-    let t = s.tasks;
-    let m = s.mutexes;
-    let q = s.ready;
+    let mut t = s.tasks;
     let old = t.level;
-    let new = new_levels(t, m);
-    let order = resettle(q, old, new, woken, t.n);
-    let mut u = t;
-    u.level = new;
-    let mut r = s;
-    r.tasks = u;
-    r.ready = order;
-    r
+    let new = new_levels(t, s.mutexes);
+    let order = resettle(s.ready, old, new, woken, t.n);
+    t.level = new;
+    s.tasks = t;
+    s.ready = order;
+    s
 }
 
 // The queue without `id`.
@@ -57,13 +54,12 @@ fn without_id(q: Queue, id: u8) -> Queue
     queues::keep_flagged(q, f, 0)
 }
 
-fn run(s: State, id: u8, q: Queue) -> State
+fn run(mut s: State, id: u8, q: Queue) -> State
     ensures { λ r. ⌜ r ≡ ran s id q ⌝ }
 {
-    let mut r = s;
-    r.ready = q;
-    r.running = id;
-    r
+    s.ready = q;
+    s.running = id;
+    s
 }
 
 // The first ready task `x` takes the place of the running task, which goes to the head of its level.
@@ -108,44 +104,41 @@ pub fn dispatch(s: State) -> State
 }
 
 // The waits of the flagged tasks end.
-pub fn wake(s: State, flags: [u8; 16], slept: u8, other: u8) -> State
+pub fn wake(mut s: State, flags: [u8; TASKS], slept: u8, other: u8) -> State
     ensures { λ r. ⌜ r ≡ woke s flags slept other ⌝ }
 {
     let t = tables::end_where(s.tasks, flags, slept, other);
     let q = queues::keep_flagged(s.waiting, flags, 0);
-    let mut r = s;
-    r.tasks = t;
-    r.waiting = q;
-    r
+    s.tasks = t;
+    s.waiting = q;
+    s
 }
 
 // The flagged tasks become ready, no level having changed.
-pub fn line_up(s: State, flags: [u8; 16]) -> State
+pub fn line_up(mut s: State, flags: [u8; TASKS]) -> State
     ensures { λ r. ⌜ r ≡ lined s flags ⌝ }
 {
     let t = s.tasks;
     let levels = t.level;
     let q = queues::insert_flagged(s.ready, levels, flags, t.n);
-    let mut r = s;
-    r.ready = q;
-    r
+    s.ready = q;
+    s
 }
 
 // Task `id` begins to wait, and nobody runs.
-pub fn block(s: State, id: u8, kind: u8, object: u8, time: u32) -> State
+pub fn block(mut s: State, id: u8, kind: u8, object: u8, time: u32) -> State
     ensures { λ r. ⌜ r ≡ blockedOn s id kind object time ⌝ }
 {
     let q = queues::push(s.waiting, id);
-    let mut r = s;
-    r.waiting = q;
-    r.running = NONE;
+    s.waiting = q;
+    s.running = NONE;
     if time == FOREVER {
         let t = tables::begin_wait(s.tasks, id, kind, object, 0, 0);
-        r.tasks = t;
-        return r;
+        s.tasks = t;
+        return s;
     }
     let due = tables::due_at(s.clock, time);
     let t = tables::begin_wait(s.tasks, id, kind, object, 1, due);
-    r.tasks = t;
-    r
+    s.tasks = t;
+    s
 }

@@ -1,10 +1,16 @@
 // Is the record sound? One function for each phrase; the first that fails ends the test.
 ghost use mathlib.Core.Path.{_≡_};
 ghost use Prim.Native.Nat.{_<_};
+ghost use Rattle.rules.specs.Sizes.{maxTasks, maxMutexes, maxSemaphores};
 ghost use Rattle.kernel.specs.SoundRecord.{usedTaskb, unusedTaskb, taskPlaceb, tasksTidyb, idb, mutexPlaceb, mutexesTidyb, semPlaceb, semaphoresTidyb, queueTidyb, tidyb};
 ghost use Rattle.kernel.specs.Checks.{prioritiesIn, mutexIn, mutexesIn, countIn, countsIn, blockedAt, timedAt, outcomeAt, taskIn, tasksIn, placeAt, placesIn, ringless, levelsIn, topIn, startedIn, nothingOwned, outcomesZero, setUpIn, phaseIn, checks};
 use crate::FLUSHED;
 use crate::GRANTED;
+use crate::KINDS;
+use crate::LEVELS;
+use crate::MAX_MUTEXES;
+use crate::MAX_SEMAPHORES;
+use crate::MAX_TASKS;
 use crate::MAX_TICKS;
 use crate::MUTEXES;
 use crate::Mutexes;
@@ -27,7 +33,7 @@ use queues::Queue;
 
 // The places of a task that is there: an object only for a wait on one, a due time only for a timed wait.
 fn used_task(t: Tasks, i: usize) -> bool
-    requires { ⌜ i < 16 ⌝ }
+    requires { ⌜ i < maxTasks ⌝ }
     ensures { λ r. ⌜ r ≡ usedTaskb t i ⌝ }
 {
     let kind = t.wait[i];
@@ -56,7 +62,7 @@ fn used_task(t: Tasks, i: usize) -> bool
 
 // Unused places are as in the fresh state.
 fn unused_task(t: Tasks, i: usize) -> bool
-    requires { ⌜ i < 16 ⌝ }
+    requires { ⌜ i < maxTasks ⌝ }
     ensures { λ r. ⌜ r ≡ unusedTaskb t i ⌝ }
 {
     if t.priority[i] != 0 {
@@ -81,7 +87,7 @@ fn unused_task(t: Tasks, i: usize) -> bool
 }
 
 fn task_place(t: Tasks, i: usize) -> bool
-    requires { ⌜ i < 16 ⌝ }
+    requires { ⌜ i < maxTasks ⌝ }
     ensures { λ r. ⌜ r ≡ taskPlaceb t i ⌝ }
 {
     if i < t.n as usize {
@@ -93,7 +99,7 @@ fn task_place(t: Tasks, i: usize) -> bool
 fn tasks_tidy(t: Tasks) -> bool
     ensures { λ r. ⌜ r ≡ tasksTidyb t ⌝ }
 {
-    if 16 < t.n {
+    if MAX_TASKS < t.n {
         return false;
     }
     for i in 0..TASKS {
@@ -108,14 +114,14 @@ fn tasks_tidy(t: Tasks) -> bool
 fn is_id(x: u8) -> bool
     ensures { λ r. ⌜ r ≡ idb x ⌝ }
 {
-    if x < 16 {
+    if x < MAX_TASKS {
         return true;
     }
     x == NONE
 }
 
 fn mutex_place(m: Mutexes, j: usize) -> bool
-    requires { ⌜ j < 8 ⌝ }
+    requires { ⌜ j < maxMutexes ⌝ }
     ensures { λ r. ⌜ r ≡ mutexPlaceb m j ⌝ }
 {
     if j < m.n as usize {
@@ -130,7 +136,7 @@ fn mutex_place(m: Mutexes, j: usize) -> bool
 fn mutexes_tidy(m: Mutexes) -> bool
     ensures { λ r. ⌜ r ≡ mutexesTidyb m ⌝ }
 {
-    if 8 < m.n {
+    if MAX_MUTEXES < m.n {
         return false;
     }
     for j in 0..MUTEXES {
@@ -142,7 +148,7 @@ fn mutexes_tidy(m: Mutexes) -> bool
 }
 
 fn semaphore_place(c: Semaphores, j: usize) -> bool
-    requires { ⌜ j < 8 ⌝ }
+    requires { ⌜ j < maxSemaphores ⌝ }
     ensures { λ r. ⌜ r ≡ semPlaceb c j ⌝ }
 {
     if j < c.n as usize {
@@ -157,7 +163,7 @@ fn semaphore_place(c: Semaphores, j: usize) -> bool
 fn semaphores_tidy(c: Semaphores) -> bool
     ensures { λ r. ⌜ r ≡ semaphoresTidyb c ⌝ }
 {
-    if 8 < c.n {
+    if MAX_SEMAPHORES < c.n {
         return false;
     }
     for j in 0..SEMAPHORES {
@@ -171,7 +177,7 @@ fn semaphores_tidy(c: Semaphores) -> bool
 fn queue_tidy(q: Queue) -> bool
     ensures { λ r. ⌜ r ≡ queueTidyb q ⌝ }
 {
-    if 16 < q.n {
+    if MAX_TASKS < q.n {
         return false;
     }
     queues::rest_empty(q)
@@ -208,7 +214,7 @@ fn priorities_in(t: Tasks) -> bool
 {
     let priorities = t.priority;
     for i in 0..t.n {
-        if 32 <= queues::key_of(priorities, i) {
+        if LEVELS <= queues::key_of(priorities, i) {
             return false;
         }
     }
@@ -219,7 +225,7 @@ fn priorities_in(t: Tasks) -> bool
 fn mutex_in(m: Mutexes, n: u8, j: u8) -> bool
     ensures { λ r. ⌜ r ≡ mutexIn m n j ⌝ }
 {
-    if 2 <= tables::kind_at(m, j) {
+    if KINDS <= tables::kind_at(m, j) {
         return false;
     }
     let owner = tables::owner_at(m, j);
@@ -345,7 +351,7 @@ fn tasks_in(s: State) -> bool
 }
 
 // Task `i` stands in one place: `waits` counts the waiting, `all` the waiting and the ready.
-fn place_at(s: State, waits: [u8; 16], all: [u8; 16], i: u8) -> bool
+fn place_at(s: State, waits: [u8; TASKS], all: [u8; TASKS], i: u8) -> bool
     ensures { λ r. ⌜ r ≡ placeAt s waits all i ⌝ }
 {
     let t = s.tasks;
@@ -379,7 +385,7 @@ fn places_in(s: State) -> bool
             return false;
         }
     }
-    let waits = queues::count_in([0u8; 16], s.waiting);
+    let waits = queues::count_in([0u8; TASKS], s.waiting);
     let all = queues::count_in(waits, s.ready);
     for i in 0..n {
         if !place_at(s, waits, all, i) {

@@ -2,11 +2,17 @@
 ghost use mathlib.Core.Path.{_≡_};
 ghost use Prim.Native.Nat.{_<_, _≤_};
 ghost use Rattle.kernel.specs.declared.Answer;
-ghost use Rattle.kernel.specs.Machine.{countAt, maximumAt, accept, refuse, isTime, taskStep, mutexStep, semStep, startStep, lockStep, lockWaits, passed, unlockStep, pendStep, creditStep, postStep, flushStep, sleepStep, yieldStep, holdStep, freeStep, tickStep, levelStep, outcomeStep};
+ghost use Rattle.kernel.specs.Machine.{countAt, maximumAt, accept, refuse, isTime, waitRefusal, taskStep, mutexStep, semStep, startStep, lockStep, lockWaits, passed, unlockStep, pendStep, creditStep, postStep, flushStep, sleepStep, yieldStep, holdStep, freeStep, tickStep, levelStep, outcomeStep};
 use crate::Answer;
 use crate::FLUSHED;
 use crate::FOREVER;
 use crate::GRANTED;
+use crate::KINDS;
+use crate::LEVELS;
+use crate::MAX_HOLD;
+use crate::MAX_MUTEXES;
+use crate::MAX_SEMAPHORES;
+use crate::MAX_TASKS;
 use crate::MAX_TICKS;
 use crate::NONE;
 use crate::ON_MUTEX;
@@ -14,6 +20,7 @@ use crate::ON_SEMAPHORE;
 use crate::ON_TIME;
 use crate::Out;
 use crate::State;
+use crate::TASKS;
 use crate::TIMED_OUT;
 use crate::objects;
 use crate::settle;
@@ -57,49 +64,62 @@ fn is_time(t: u32) -> bool
     t == FOREVER
 }
 
-pub fn task(s: State, priority: u32) -> Out
+// Why a caller that would wait may not: 3 where its time is 0, else 11 while scheduling is held; 0 where it may.
+fn wait_refusal(hold: u8, time: u32) -> u8
+    ensures { λ r. ⌜ r ≡ waitRefusal hold time ⌝ }
+{
+    let at_once = time == 0;
+    let held = 0 < hold;
+    if at_once {
+        return 3;
+    }
+    if held {
+        return 11;
+    }
+    0
+}
+
+pub fn task(mut s: State, priority: u32) -> Out
     ensures { λ r. ⌜ r ≡ taskStep s priority ⌝ }
 {
     if s.started != 0 {
         return refused(s, 4, 0);
     }
-    if 32 <= priority {
+    if LEVELS as u32 <= priority {
         return refused(s, 7, 0);
     }
     let id = s.tasks.n;
-    if 16 <= id {
+    if MAX_TASKS <= id {
         return refused(s, 8, 0);
     }
     let p = priority as u8;
     let t = objects::add_task(s.tasks, p);
     let levels = t.level;
     let q = queues::insert(s.ready, levels, p as u16 + 1, id);
-    let mut r = s;
-    r.tasks = t;
-    r.ready = q;
-    accepted(r, 0, id as u32)
+    s.tasks = t;
+    s.ready = q;
+    accepted(s, 0, id as u32)
 }
 
-pub fn mutex(s: State, kind: u32) -> Out
+pub fn mutex(mut s: State, kind: u32) -> Out
     ensures { λ r. ⌜ r ≡ mutexStep s kind ⌝ }
 {
     if s.started != 0 {
         return refused(s, 4, 0);
     }
-    if 2 <= kind {
+    if KINDS as u32 <= kind {
         return refused(s, 7, 0);
     }
     let id = s.mutexes.n;
-    if 8 <= id {
+    if MAX_MUTEXES <= id {
         return refused(s, 8, 0);
     }
     let m = objects::add_mutex(s.mutexes, kind as u8);
-    let mut r = s;
-    r.mutexes = m;
-    accepted(r, 0, id as u32)
+    s.mutexes = m;
+    accepted(s, 0, id as u32)
 }
 
-pub fn sem(s: State, count: u32, maximum: u32) -> Out
+pub fn sem(mut s: State, count: u32, maximum: u32) -> Out
     ensures { λ r. ⌜ r ≡ semStep s count maximum ⌝ }
 {
     if s.started != 0 {
@@ -112,24 +132,22 @@ pub fn sem(s: State, count: u32, maximum: u32) -> Out
         return refused(s, 7, 0);
     }
     let id = s.semaphores.n;
-    if 8 <= id {
+    if MAX_SEMAPHORES <= id {
         return refused(s, 8, 0);
     }
     let c = objects::add_semaphore(s.semaphores, count, maximum);
-    let mut r = s;
-    r.semaphores = c;
-    accepted(r, 0, id as u32)
+    s.semaphores = c;
+    accepted(s, 0, id as u32)
 }
 
-pub fn start(s: State) -> Out
+pub fn start(mut s: State) -> Out
     ensures { λ r. ⌜ r ≡ startStep s ⌝ }
 {
     if s.started != 0 {
         return refused(s, 4, 0);
     }
-    let mut r = s;
-    r.started = 1;
-    let d = settle::dispatch(r);
+    s.started = 1;
+    let d = settle::dispatch(s);
     accepted(d, 0, 0)
 }
 
@@ -137,11 +155,9 @@ pub fn start(s: State) -> Out
 fn lock_waits(s: State, m: u8, time: u32) -> Out
     ensures { λ r. ⌜ r ≡ lockWaits s m time ⌝ }
 {
-    if time == 0 {
-        return refused(s, 3, 0);
-    }
-    if s.hold != 0 {
-        return refused(s, 11, 0);
+    let no = wait_refusal(s.hold, time);
+    if no != 0 {
+        return refused(s, no, 0);
     }
     let t = s.tasks;
     let mutexes = s.mutexes;
@@ -151,11 +167,11 @@ fn lock_waits(s: State, m: u8, time: u32) -> Out
         return refused(s, 12, f.links as u32);
     }
     let b = settle::block(s, s.running, ON_MUTEX, m, time);
-    let d = settle::dispatch(settle::settle(b, [0u8; 16]));
+    let d = settle::dispatch(settle::settle(b, [0u8; TASKS]));
     accepted(d, 1, f.links as u32)
 }
 
-pub fn lock(s: State, m: u32, time: u32) -> Out
+pub fn lock(mut s: State, m: u32, time: u32) -> Out
     ensures { λ r. ⌜ r ≡ lockStep s m time ⌝ }
 {
     if s.started == 0 {
@@ -177,22 +193,20 @@ pub fn lock(s: State, m: u32, time: u32) -> Out
     }
     if owner == NONE {
         let mutexes = objects::set_owner(s.mutexes, j, s.running);
-        let mut r = s;
-        r.mutexes = mutexes;
-        return accepted(r, 0, 0);
+        s.mutexes = mutexes;
+        return accepted(s, 0, 0);
     }
     lock_waits(s, j, time)
 }
 
 // Ownership passes to `w`, or the mutex becomes free.
-fn pass(s: State, m: u8, w: u8) -> State
+fn pass(mut s: State, m: u8, w: u8) -> State
     ensures { λ r. ⌜ r ≡ passed s m w ⌝ }
 {
     let mutexes = objects::set_owner(s.mutexes, m, w);
     if w == NONE {
-        let mut r = s;
-        r.mutexes = mutexes;
-        return r;
+        s.mutexes = mutexes;
+        return s;
     }
     let flags = tables::only(w);
     let mut r = settle::wake(s, flags, GRANTED, GRANTED);
@@ -225,7 +239,7 @@ pub fn unlock(s: State, m: u32) -> Out
     accepted(r, 0, 0)
 }
 
-pub fn pend(s: State, k: u32, time: u32) -> Out
+pub fn pend(mut s: State, k: u32, time: u32) -> Out
     ensures { λ r. ⌜ r ≡ pendStep s k time ⌝ }
 {
     if s.started == 0 {
@@ -244,15 +258,12 @@ pub fn pend(s: State, k: u32, time: u32) -> Out
     let count = objects::count_at(s.semaphores, j);
     if count != 0 {
         let c = objects::set_count(s.semaphores, j, count - 1);
-        let mut r = s;
-        r.semaphores = c;
-        return accepted(r, 0, 0);
+        s.semaphores = c;
+        return accepted(s, 0, 0);
     }
-    if time == 0 {
-        return refused(s, 3, 0);
-    }
-    if s.hold != 0 {
-        return refused(s, 11, 0);
+    let no = wait_refusal(s.hold, time);
+    if no != 0 {
+        return refused(s, no, 0);
     }
     let b = settle::block(s, s.running, ON_SEMAPHORE, j, time);
     let d = settle::dispatch(b);
@@ -260,7 +271,7 @@ pub fn pend(s: State, k: u32, time: u32) -> Out
 }
 
 // The waiter `w` gets the credit; where there is none, the count rises. No sound record counts beyond the maximum.
-fn credit(s: State, j: u8, w: u8) -> Out
+fn credit(mut s: State, j: u8, w: u8) -> Out
     requires { ⌜ countAt (s .semaphores) j ≤ maximumAt (s .semaphores) j ⌝ }
     ensures { λ r. ⌜ r ≡ creditStep s j w ⌝ }
 {
@@ -275,9 +286,8 @@ fn credit(s: State, j: u8, w: u8) -> Out
         return refused(s, 2, 0);
     }
     let c = objects::set_count(s.semaphores, j, count + 1);
-    let mut r = s;
-    r.semaphores = c;
-    accepted(r, 0, 0)
+    s.semaphores = c;
+    accepted(s, 0, 0)
 }
 
 pub fn post(s: State, k: u32) -> Out
@@ -337,7 +347,7 @@ pub fn sleep(s: State, time: u32) -> Out
     accepted(d, 1, 0)
 }
 
-pub fn yield_now(s: State) -> Out
+pub fn yield_now(mut s: State) -> Out
     ensures { λ r. ⌜ r ≡ yieldStep s ⌝ }
 {
     if s.started == 0 {
@@ -354,14 +364,13 @@ pub fn yield_now(s: State) -> Out
     let levels = t.level;
     let level = queues::key_of(levels, id) as u16;
     let q = queues::insert(s.ready, levels, level + 1, id);
-    let mut r = s;
-    r.ready = q;
-    r.running = NONE;
-    let d = settle::dispatch(r);
+    s.ready = q;
+    s.running = NONE;
+    let d = settle::dispatch(s);
     accepted(d, 0, 0)
 }
 
-pub fn hold(s: State) -> Out
+pub fn hold(mut s: State) -> Out
     ensures { λ r. ⌜ r ≡ holdStep s ⌝ }
 {
     if s.started == 0 {
@@ -370,15 +379,14 @@ pub fn hold(s: State) -> Out
     if s.running == NONE {
         return refused(s, 5, 0);
     }
-    if 255 <= s.hold {
+    if MAX_HOLD <= s.hold {
         return refused(s, 13, 0);
     }
-    let mut r = s;
-    r.hold = s.hold + 1;
-    accepted(r, 0, 0)
+    s.hold += 1;
+    accepted(s, 0, 0)
 }
 
-pub fn free(s: State) -> Out
+pub fn free(mut s: State) -> Out
     ensures { λ r. ⌜ r ≡ freeStep s ⌝ }
 {
     if s.started == 0 {
@@ -390,13 +398,12 @@ pub fn free(s: State) -> Out
     if s.hold == 0 {
         return refused(s, 13, 0);
     }
-    let mut r = s;
-    r.hold = s.hold - 1;
-    let d = settle::dispatch(r);
+    s.hold -= 1;
+    let d = settle::dispatch(s);
     accepted(d, 0, 0)
 }
 
-pub fn tick(s: State) -> Out
+pub fn tick(mut s: State) -> Out
     ensures { λ r. ⌜ r ≡ tickStep s ⌝ }
 {
     if s.started == 0 {
@@ -410,9 +417,8 @@ pub fn tick(s: State) -> Out
         let d = settle::dispatch(settle::settle(r, flags));
         return accepted(d, 0, 0);
     }
-    let mut r = s;
-    r.clock = clock;
-    accepted(r, 0, 0)
+    s.clock = clock;
+    accepted(s, 0, 0)
 }
 
 pub fn level(s: State, i: u32) -> Out

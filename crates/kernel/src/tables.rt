@@ -2,8 +2,11 @@
 ghost use mathlib.Core.Path.{_≡_};
 ghost use Prim.Native.Nat.{_<_};
 ghost use Rattle.lists.specs.Table.{filled};
+ghost use Rattle.rules.specs.Sizes.{maxTasks};
 ghost use Rattle.kernel.specs.Record.{ticksLeft, dueAt};
 ghost use Rattle.kernel.specs.Machine.{waitBegun, waitEnded, endedIf, endedWhere, single, dueFlag, waiterFlag, differs, differFlag, bothOnes, bothFlag, ownerAt, nextAt, lendsAt, kindAt, anyFlag, dueOf};
+use crate::INHERITING;
+use crate::MAX_TASKS;
 use crate::MUTEXES;
 use crate::Mutexes;
 use crate::NO_WAIT;
@@ -40,41 +43,39 @@ pub fn due_of(t: Tasks, i: u8) -> u32
 }
 
 // Task `i` begins to wait.
-pub fn begin_wait(t: Tasks, i: u8, kind: u8, object: u8, timed: u8, due: u32) -> Tasks
+pub fn begin_wait(mut t: Tasks, i: u8, kind: u8, object: u8, timed: u8, due: u32) -> Tasks
     ensures { λ r. ⌜ r ≡ waitBegun t i kind object timed due ⌝ }
 {
     let j = i as usize;
     if TASKS <= j {
         return t;
     }
-    let mut r = t;
-    r.wait[j] = kind;
-    r.object[j] = object;
-    r.timed[j] = timed;
-    r.due[j] = due;
-    r.outcome[j] = PENDING;
-    r
+    t.wait[j] = kind;
+    t.object[j] = object;
+    t.timed[j] = timed;
+    t.due[j] = due;
+    t.outcome[j] = PENDING;
+    t
 }
 
 // The wait of task `i` ends.
-pub fn end_wait(t: Tasks, i: u8, outcome: u8) -> Tasks
+pub fn end_wait(mut t: Tasks, i: u8, outcome: u8) -> Tasks
     ensures { λ r. ⌜ r ≡ waitEnded t i outcome ⌝ }
 {
     let j = i as usize;
     if TASKS <= j {
         return t;
     }
-    let mut r = t;
-    r.wait[j] = NO_WAIT;
-    r.object[j] = 0;
-    r.timed[j] = 0;
-    r.due[j] = 0;
-    r.outcome[j] = outcome;
-    r
+    t.wait[j] = NO_WAIT;
+    t.object[j] = 0;
+    t.timed[j] = 0;
+    t.due[j] = 0;
+    t.outcome[j] = outcome;
+    t
 }
 
 // One task of `end_where`.
-fn end_if(t: Tasks, flags: [u8; 16], slept: u8, other: u8, i: u8) -> Tasks
+fn end_if(t: Tasks, flags: [u8; TASKS], slept: u8, other: u8, i: u8) -> Tasks
     ensures { λ r. ⌜ r ≡ endedIf t flags slept other i ⌝ }
 {
     if queues::key_of(flags, i) != 1 {
@@ -88,21 +89,21 @@ fn end_if(t: Tasks, flags: [u8; 16], slept: u8, other: u8, i: u8) -> Tasks
 }
 
 // The waits of the tasks whose flag is 1 end, sleeps with one outcome and other waits with another.
-pub fn end_where(t: Tasks, flags: [u8; 16], slept: u8, other: u8) -> Tasks
-    ensures { λ r. ⌜ r ≡ endedWhere t flags slept other 16 ⌝ }
+pub fn end_where(t: Tasks, flags: [u8; TASKS], slept: u8, other: u8) -> Tasks
+    ensures { λ r. ⌜ r ≡ endedWhere t flags slept other maxTasks ⌝ }
 {
     let mut r = t;
-    for i in 0..16u8 {
+    for i in 0..MAX_TASKS {
         r = end_if(r, flags, slept, other, i);
     }
     r
 }
 
 // The flag of task `i` alone.
-pub fn only(i: u8) -> [u8; 16]
+pub fn only(i: u8) -> [u8; TASKS]
     ensures { λ r. ⌜ r ≡ single i ⌝ }
 {
-    let mut f = [0u8; 16];
+    let mut f = [0u8; TASKS];
     let j = i as usize;
     if j < TASKS {
         f[j] = 1;
@@ -112,7 +113,7 @@ pub fn only(i: u8) -> [u8; 16]
 
 // Has task `i` a timed wait with one tick left?
 fn due_flag(t: Tasks, clock: u32, i: usize) -> u8
-    requires { ⌜ i < 16 ⌝ }
+    requires { ⌜ i < maxTasks ⌝ }
     ensures { λ r. ⌜ r ≡ dueFlag t clock i ⌝ }
 {
     if t.timed[i] != 1 {
@@ -125,11 +126,11 @@ fn due_flag(t: Tasks, clock: u32, i: usize) -> u8
 }
 
 // The tasks whose waits end at the next tick.
-pub fn due_flags(t: Tasks, clock: u32) -> [u8; 16]
-    ensures { λ r. ⌜ r ≡ filled 16 (dueFlag t clock) ⌝ }
+pub fn due_flags(t: Tasks, clock: u32) -> [u8; TASKS]
+    ensures { λ r. ⌜ r ≡ filled maxTasks (dueFlag t clock) ⌝ }
 {
-    let mut f = [0u8; 16];
-    for i in 0..16 {
+    let mut f = [0u8; TASKS];
+    for i in 0..TASKS {
         f[i] = due_flag(t, clock, i);
     }
     f
@@ -137,7 +138,7 @@ pub fn due_flags(t: Tasks, clock: u32) -> [u8; 16]
 
 // Does task `i` wait for the object?
 fn waiter_flag(t: Tasks, kind: u8, object: u8, i: usize) -> u8
-    requires { ⌜ i < 16 ⌝ }
+    requires { ⌜ i < maxTasks ⌝ }
     ensures { λ r. ⌜ r ≡ waiterFlag t kind object i ⌝ }
 {
     if t.wait[i] != kind {
@@ -150,22 +151,22 @@ fn waiter_flag(t: Tasks, kind: u8, object: u8, i: usize) -> u8
 }
 
 // The tasks that wait for the object.
-pub fn waiter_flags(t: Tasks, kind: u8, object: u8) -> [u8; 16]
-    ensures { λ r. ⌜ r ≡ filled 16 (waiterFlag t kind object) ⌝ }
+pub fn waiter_flags(t: Tasks, kind: u8, object: u8) -> [u8; TASKS]
+    ensures { λ r. ⌜ r ≡ filled maxTasks (waiterFlag t kind object) ⌝ }
 {
-    let mut f = [0u8; 16];
-    for i in 0..16 {
+    let mut f = [0u8; TASKS];
+    for i in 0..TASKS {
         f[i] = waiter_flag(t, kind, object, i);
     }
     f
 }
 
 // The places where two tables differ.
-pub fn differ(a: [u8; 16], b: [u8; 16]) -> [u8; 16]
-    ensures { λ r. ⌜ r ≡ filled 16 (differFlag a b) ⌝ }
+pub fn differ(a: [u8; TASKS], b: [u8; TASKS]) -> [u8; TASKS]
+    ensures { λ r. ⌜ r ≡ filled maxTasks (differFlag a b) ⌝ }
 {
-    let mut f = [0u8; 16];
-    for i in 0..16 {
+    let mut f = [0u8; TASKS];
+    for i in 0..TASKS {
         f[i] = differ_flag(a[i], b[i]);
     }
     f
@@ -181,11 +182,11 @@ fn differ_flag(x: u8, y: u8) -> u8
 }
 
 // The places where both tables hold a 1.
-pub fn both(a: [u8; 16], b: [u8; 16]) -> [u8; 16]
-    ensures { λ r. ⌜ r ≡ filled 16 (bothFlag a b) ⌝ }
+pub fn both(a: [u8; TASKS], b: [u8; TASKS]) -> [u8; TASKS]
+    ensures { λ r. ⌜ r ≡ filled maxTasks (bothFlag a b) ⌝ }
 {
-    let mut f = [0u8; 16];
-    for i in 0..16 {
+    let mut f = [0u8; TASKS];
+    for i in 0..TASKS {
         f[i] = both_flag(a[i], b[i]);
     }
     f
@@ -204,10 +205,10 @@ fn both_flag(x: u8, y: u8) -> u8
 }
 
 // Does any place hold a 1?
-pub fn any_flag(f: [u8; 16]) -> bool
+pub fn any_flag(f: [u8; TASKS]) -> bool
     ensures { λ r. ⌜ r ≡ anyFlag f ⌝ }
 {
-    for i in 0..16 {
+    for i in 0..TASKS {
         if f[i] == 1 {
             return true;
         }
@@ -238,7 +239,7 @@ pub fn kind_at(m: Mutexes, j: u8) -> u8
 
 // The owner of the mutex for which task `i` waits, mutexes of every kind.
 fn next_at(t: Tasks, m: Mutexes, i: usize) -> u8
-    requires { ⌜ i < 16 ⌝ }
+    requires { ⌜ i < maxTasks ⌝ }
     ensures { λ r. ⌜ r ≡ nextAt t m i ⌝ }
 {
     if t.wait[i] != ON_MUTEX {
@@ -248,11 +249,11 @@ fn next_at(t: Tasks, m: Mutexes, i: usize) -> u8
 }
 
 // Who leads to whom, by mutexes of every kind.
-pub fn next_of(t: Tasks, m: Mutexes) -> [u8; 16]
-    ensures { λ r. ⌜ r ≡ filled 16 (nextAt t m) ⌝ }
+pub fn next_of(t: Tasks, m: Mutexes) -> [u8; TASKS]
+    ensures { λ r. ⌜ r ≡ filled maxTasks (nextAt t m) ⌝ }
 {
-    let mut a = [NONE; 16];
-    for i in 0..16 {
+    let mut a = [NONE; TASKS];
+    for i in 0..TASKS {
         a[i] = next_at(t, m, i);
     }
     a
@@ -260,24 +261,24 @@ pub fn next_of(t: Tasks, m: Mutexes) -> [u8; 16]
 
 // The owner of the inheriting mutex for which task `i` waits.
 fn lends_at(t: Tasks, m: Mutexes, i: usize) -> u8
-    requires { ⌜ i < 16 ⌝ }
+    requires { ⌜ i < maxTasks ⌝ }
     ensures { λ r. ⌜ r ≡ lendsAt t m i ⌝ }
 {
     if t.wait[i] != ON_MUTEX {
         return NONE;
     }
-    if kind_at(m, t.object[i]) != 1 {
+    if kind_at(m, t.object[i]) != INHERITING {
         return NONE;
     }
     owner_at(m, t.object[i])
 }
 
 // Who lends a level to whom.
-pub fn lends_of(t: Tasks, m: Mutexes) -> [u8; 16]
-    ensures { λ r. ⌜ r ≡ filled 16 (lendsAt t m) ⌝ }
+pub fn lends_of(t: Tasks, m: Mutexes) -> [u8; TASKS]
+    ensures { λ r. ⌜ r ≡ filled maxTasks (lendsAt t m) ⌝ }
 {
-    let mut a = [NONE; 16];
-    for i in 0..16 {
+    let mut a = [NONE; TASKS];
+    for i in 0..TASKS {
         a[i] = lends_at(t, m, i);
     }
     a

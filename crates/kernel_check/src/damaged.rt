@@ -1,63 +1,46 @@
 // Records that are not sound: each phrase of "Sound state" broken alone. Each is answered 15, unchanged, with no task to run.
 use crate::edges;
 use crate::show;
+use kernel::MAX_TASKS;
+use kernel::MUTEXES;
 use kernel::Mutexes;
 use kernel::Request;
+use kernel::SEMAPHORES;
 use kernel::Semaphores;
 use kernel::State;
+use kernel::TASKS;
 use kernel::Tasks;
 use queues::Queue;
 
-fn same_few(a: [u8; 8], b: [u8; 8]) -> bool {
-    a[0] == b[0]
-        && a[1] == b[1]
-        && a[2] == b[2]
-        && a[3] == b[3]
-        && a[4] == b[4]
-        && a[5] == b[5]
-        && a[6] == b[6]
-        && a[7] == b[7]
+fn same_few(a: [u8; MUTEXES], b: [u8; MUTEXES]) -> bool {
+    for i in 0..MUTEXES {
+        if a[i] != b[i] {
+            return false;
+        }
+    }
+    true
 }
 
-fn same_counts(a: [u32; 8], b: [u32; 8]) -> bool {
-    a[0] == b[0]
-        && a[1] == b[1]
-        && a[2] == b[2]
-        && a[3] == b[3]
-        && a[4] == b[4]
-        && a[5] == b[5]
-        && a[6] == b[6]
-        && a[7] == b[7]
+fn same_counts(a: [u32; SEMAPHORES], b: [u32; SEMAPHORES]) -> bool {
+    for i in 0..SEMAPHORES {
+        if a[i] != b[i] {
+            return false;
+        }
+    }
+    true
 }
 
-fn same_first_words(a: [u32; 16], b: [u32; 16]) -> bool {
-    a[0] == b[0]
-        && a[1] == b[1]
-        && a[2] == b[2]
-        && a[3] == b[3]
-        && a[4] == b[4]
-        && a[5] == b[5]
-        && a[6] == b[6]
-        && a[7] == b[7]
+fn same_words(a: [u32; TASKS], b: [u32; TASKS]) -> bool {
+    for i in 0..TASKS {
+        if a[i] != b[i] {
+            return false;
+        }
+    }
+    true
 }
 
-fn same_last_words(a: [u32; 16], b: [u32; 16]) -> bool {
-    a[8] == b[8]
-        && a[9] == b[9]
-        && a[10] == b[10]
-        && a[11] == b[11]
-        && a[12] == b[12]
-        && a[13] == b[13]
-        && a[14] == b[14]
-        && a[15] == b[15]
-}
-
-fn same_words(a: [u32; 16], b: [u32; 16]) -> bool {
-    same_first_words(a, b) && same_last_words(a, b)
-}
-
-fn same_bytes(a: [u8; 16], b: [u8; 16]) -> bool {
-    walks::agree(a, b, 16)
+fn same_bytes(a: [u8; TASKS], b: [u8; TASKS]) -> bool {
+    walks::agree(a, b, MAX_TASKS)
 }
 
 fn same_queue(a: Queue, b: Queue) -> bool {
@@ -164,186 +147,215 @@ pub fn sound_ones() {
     tried(b"started", base());
 }
 
-fn with_tasks(s: State, t: Tasks) -> State {
-    let mut r = s;
-    r.tasks = t;
-    r
+// The started record with other tables of tasks, and so on for the other tables.
+fn try_tasks(label: &[u8], t: Tasks) {
+    let mut s = base();
+    s.tasks = t;
+    tried(label, s);
 }
 
-fn with_mutexes(s: State, m: Mutexes) -> State {
-    let mut r = s;
-    r.mutexes = m;
-    r
+fn try_mutexes(label: &[u8], m: Mutexes) {
+    let mut s = base();
+    s.mutexes = m;
+    tried(label, s);
 }
 
-fn with_semaphores(s: State, c: Semaphores) -> State {
-    let mut r = s;
-    r.semaphores = c;
-    r
+fn try_semaphores(label: &[u8], c: Semaphores) {
+    let mut s = base();
+    s.semaphores = c;
+    tried(label, s);
 }
 
 pub fn tasks() {
     let s = base();
-    let mut t = s.tasks;
+    let good = s.tasks;
+    let mut t = good;
     t.n = 17;
-    tried(b"tasks over 16", with_tasks(s, t));
-    t = s.tasks;
+    try_tasks(b"tasks over 16", t);
+    t = good;
     t.n = 255;
-    tried(b"tasks 255", with_tasks(s, t));
-    t = s.tasks;
+    try_tasks(b"tasks 255", t);
+    t = good;
     t.priority[1] = 32;
-    tried(b"priority 32", with_tasks(s, t));
-    t = s.tasks;
+    try_tasks(b"priority 32", t);
+    t = good;
     t.level[0] = 5;
-    tried(b"stored level of the owner", with_tasks(s, t));
-    t = s.tasks;
+    try_tasks(b"stored level of the owner", t);
+    t = good;
     t.outcome[1] = 2;
-    tried(b"outcome 2", with_tasks(s, t));
-    t = s.tasks;
+    try_tasks(b"outcome 2", t);
+}
+
+// Outcomes, and unused places of the tables of tasks.
+pub fn outcomes() {
+    let s = base();
+    let good = s.tasks;
+    let mut t = good;
     t.outcome[1] = 1;
-    tried(b"outcome 1 of a ready task", with_tasks(s, t));
-    t = s.tasks;
+    try_tasks(b"outcome 1 of a ready task", t);
+    t = good;
     t.outcome[2] = 0;
-    tried(b"outcome 0 of a waiting task", with_tasks(s, t));
-    t = s.tasks;
+    try_tasks(b"outcome 0 of a waiting task", t);
+    t = good;
     t.priority[3] = 1;
-    tried(b"priority in an unused place", with_tasks(s, t));
-    t = s.tasks;
+    try_tasks(b"priority in an unused place", t);
+    t = good;
     t.level[15] = 1;
-    tried(b"level in an unused place", with_tasks(s, t));
-    t = s.tasks;
+    try_tasks(b"level in an unused place", t);
+    t = good;
     t.outcome[3] = 20;
-    tried(b"outcome in an unused place", with_tasks(s, t));
+    try_tasks(b"outcome in an unused place", t);
 }
 
 pub fn waits() {
     let s = base();
-    let mut t = s.tasks;
+    let good = s.tasks;
+    let mut t = good;
     t.wait[2] = 4;
-    tried(b"kind of wait 4", with_tasks(s, t));
-    t = s.tasks;
+    try_tasks(b"kind of wait 4", t);
+    t = good;
     t.object[2] = 1;
-    tried(b"waits for a free mutex", with_tasks(s, t));
-    t = s.tasks;
+    try_tasks(b"waits for a free mutex", t);
+    t = good;
     t.object[2] = 7;
-    tried(b"waits for no mutex that there is", with_tasks(s, t));
-    t = s.tasks;
+    try_tasks(b"waits for no mutex that there is", t);
+    t = good;
     t.wait[2] = 2;
-    tried(b"waits for a semaphore with credit", with_tasks(s, t));
-    t = s.tasks;
-    t.due[2] = s.clock;
-    tried(b"no tick left", with_tasks(s, t));
-    t = s.tasks;
-    t.due[2] = std::num::wrapping_add_u32(s.clock, 2147483648);
-    tried(b"2147483648 ticks left", with_tasks(s, t));
-    t = s.tasks;
+    try_tasks(b"waits for a semaphore with credit", t);
+}
+
+// Due times, and what only a wait may have.
+pub fn times() {
+    let s = base();
+    let clock = s.clock;
+    let good = s.tasks;
+    let mut t = good;
+    t.due[2] = clock;
+    try_tasks(b"no tick left", t);
+    t = good;
+    t.due[2] = std::num::wrapping_add_u32(clock, 2147483648);
+    try_tasks(b"2147483648 ticks left", t);
+    t = good;
     t.wait[2] = 3;
     t.object[2] = 0;
     t.timed[2] = 0;
     t.due[2] = 0;
-    tried(b"a sleep without time", with_tasks(s, t));
-    t = s.tasks;
+    try_tasks(b"a sleep without time", t);
+    t = good;
     t.timed[2] = 2;
-    tried(b"timed 2", with_tasks(s, t));
-    t = s.tasks;
+    try_tasks(b"timed 2", t);
+    t = good;
     t.object[1] = 1;
-    tried(b"an object without a wait", with_tasks(s, t));
-    t = s.tasks;
+    try_tasks(b"an object without a wait", t);
+    t = good;
     t.due[1] = 9;
-    tried(b"a due time without a wait", with_tasks(s, t));
-    t = s.tasks;
+    try_tasks(b"a due time without a wait", t);
+    t = good;
     t.timed[1] = 1;
-    tried(b"timed without a wait", with_tasks(s, t));
+    try_tasks(b"timed without a wait", t);
 }
 
-pub fn objects() {
+pub fn mutexes() {
     let s = base();
-    let mut m = s.mutexes;
+    let good = s.mutexes;
+    let mut m = good;
     m.n = 9;
-    tried(b"mutexes over 8", with_mutexes(s, m));
-    m = s.mutexes;
+    try_mutexes(b"mutexes over 8", m);
+    m = good;
     m.kind[0] = 2;
-    tried(b"kind 2", with_mutexes(s, m));
-    m = s.mutexes;
+    try_mutexes(b"kind 2", m);
+    m = good;
     m.owner[1] = 3;
-    tried(b"an owner that there is not", with_mutexes(s, m));
-    m = s.mutexes;
+    try_mutexes(b"an owner that there is not", m);
+    m = good;
     m.owner[0] = 2;
-    tried(b"a ring of one", with_mutexes(s, m));
-    m = s.mutexes;
+    try_mutexes(b"a ring of one", m);
+    m = good;
     m.owner[5] = 0;
-    tried(b"an owner in an unused place", with_mutexes(s, m));
-    m = s.mutexes;
+    try_mutexes(b"an owner in an unused place", m);
+    m = good;
     m.kind[5] = 1;
-    tried(b"a kind in an unused place", with_mutexes(s, m));
-    let mut c = s.semaphores;
+    try_mutexes(b"a kind in an unused place", m);
+}
+
+pub fn semaphores() {
+    let s = base();
+    let good = s.semaphores;
+    let mut c = good;
     c.n = 9;
-    tried(b"semaphores over 8", with_semaphores(s, c));
-    c = s.semaphores;
+    try_semaphores(b"semaphores over 8", c);
+    c = good;
     c.count[0] = 4;
-    tried(b"count over maximum", with_semaphores(s, c));
-    c = s.semaphores;
+    try_semaphores(b"count over maximum", c);
+    c = good;
     c.count[0] = 0;
     c.maximum[0] = 0;
-    tried(b"maximum 0", with_semaphores(s, c));
-    c = s.semaphores;
+    try_semaphores(b"maximum 0", c);
+    c = good;
     c.maximum[3] = 1;
-    tried(b"a maximum in an unused place", with_semaphores(s, c));
+    try_semaphores(b"a maximum in an unused place", c);
 }
 
-fn with_ready(s: State, q: Queue) -> State {
-    let mut r = s;
-    r.ready = q;
-    r
+fn try_ready(label: &[u8], q: Queue) {
+    let mut s = base();
+    s.ready = q;
+    tried(label, s);
 }
 
-fn with_waiting(s: State, q: Queue) -> State {
-    let mut r = s;
-    r.waiting = q;
-    r
+// The record in set-up with another ready order.
+fn try_set_up(label: &[u8], q: Queue) {
+    let mut s = set_up();
+    s.ready = q;
+    tried(label, s);
+}
+
+fn try_waiting(label: &[u8], q: Queue) {
+    let mut s = base();
+    s.waiting = q;
+    tried(label, s);
 }
 
 pub fn orders() {
     let s = base();
-    let mut q = s.ready;
+    let good = s.ready;
+    let mut q = good;
     q.n = 17;
-    tried(b"ready over 16", with_ready(s, q));
-    q = s.ready;
+    try_ready(b"ready over 16", q);
+    q = good;
     q.n = 0;
-    tried(b"a ready task missing", with_ready(s, q));
-    q = s.ready;
+    try_ready(b"a ready task missing", q);
+    q = good;
     q.ids[0] = 0;
     q.ids[1] = 1;
     q.n = 2;
-    tried(b"the running task ready too", with_ready(s, q));
-    q = s.ready;
+    try_ready(b"the running task ready too", q);
+    q = good;
     q.ids[0] = 3;
-    tried(b"a ready task that there is not", with_ready(s, q));
-    q = s.ready;
+    try_ready(b"a ready task that there is not", q);
+    q = good;
     q.ids[9] = 0;
-    tried(
-        b"an id in an unused place of the ready order",
-        with_ready(s, q),
-    );
-    q = s.waiting;
+    try_ready(b"an id in an unused place of the ready order", q);
+    let waiting = s.waiting;
+    q = waiting;
     q.n = 0;
-    tried(b"a waiting task missing", with_waiting(s, q));
-    q = s.waiting;
+    try_waiting(b"a waiting task missing", q);
+    q = waiting;
     q.ids[15] = 2;
-    tried(
-        b"an id in an unused place of the waiting order",
-        with_waiting(s, q),
-    );
-    let u = set_up();
-    q = u.ready;
+    try_waiting(b"an id in an unused place of the waiting order", q);
+}
+
+pub fn set_up_orders() {
+    let s = set_up();
+    let good = s.ready;
+    let mut q = good;
     q.ids[0] = 0;
     q.ids[2] = 1;
     q.ids[1] = 2;
-    tried(b"ready order not ascending", with_ready(u, q));
-    q = u.ready;
+    try_set_up(b"ready order not ascending", q);
+    q = good;
     q.ids[0] = 2;
     q.ids[1] = 1;
-    tried(b"equal levels not by id in set-up", with_ready(u, q));
+    try_set_up(b"equal levels not by id in set-up", q);
 }
 
 pub fn phases() {
@@ -363,14 +375,17 @@ pub fn phases() {
     r = s;
     r.running = 1;
     tried(b"a ready task runs too", r);
-    let u = set_up();
-    r = u;
+}
+
+pub fn set_up_phases() {
+    let s = set_up();
+    let mut r = s;
     r.clock = 1;
     tried(b"clock in set-up", r);
-    r = u;
+    r = s;
     r.hold = 1;
     tried(b"hold in set-up", r);
-    r = u;
+    r = s;
     r.started = 1;
     tried(b"started with nobody running", r);
     r = kernel::fresh();
@@ -381,27 +396,27 @@ pub fn phases() {
 
 pub fn wild() {
     let t = Tasks {
-        due: [4294967295u32; 16],
-        priority: [255u8; 16],
-        level: [255u8; 16],
-        outcome: [255u8; 16],
-        wait: [255u8; 16],
-        object: [255u8; 16],
-        timed: [255u8; 16],
+        due: [4294967295u32; TASKS],
+        priority: [255u8; TASKS],
+        level: [255u8; TASKS],
+        outcome: [255u8; TASKS],
+        wait: [255u8; TASKS],
+        object: [255u8; TASKS],
+        timed: [255u8; TASKS],
         n: 255,
     };
     let m = Mutexes {
-        kind: [255u8; 8],
-        owner: [255u8; 8],
+        kind: [255u8; MUTEXES],
+        owner: [255u8; MUTEXES],
         n: 255,
     };
     let c = Semaphores {
-        count: [4294967295u32; 8],
-        maximum: [4294967295u32; 8],
+        count: [4294967295u32; SEMAPHORES],
+        maximum: [4294967295u32; SEMAPHORES],
         n: 255,
     };
     let q = Queue {
-        ids: [255u8; 16],
+        ids: [255u8; TASKS],
         n: 255,
     };
     let s = State {

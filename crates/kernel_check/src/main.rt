@@ -10,9 +10,14 @@ fn main() {
     edges::time_out_lowers();
     damaged::sound_ones();
     damaged::tasks();
+    damaged::outcomes();
     damaged::waits();
-    damaged::objects();
+    damaged::times();
+    damaged::mutexes();
+    damaged::semaphores();
     damaged::orders();
+    damaged::set_up_orders();
     damaged::phases();
+    damaged::set_up_phases();
     damaged::wild();
 }

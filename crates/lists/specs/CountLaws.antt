@@ -17,9 +17,6 @@ pub eqn-other : (x y : ℕ) → (x ≡ y → ⊥) → eqn x y ≡ 0
 unfolding eqn
 eqn-other x y h = rw (ne-eqb x y h) refl
 
-pub eqn-eq : (x y : ℕ) → 1 ≤ eqn x y → x ≡ y
-eqn-eq x y h = elim (ℕ-discrete x y) [ yes e ↦ e | no n ↦ absurd (omega (arith, eqn-other x y n)) ]
-
 pub occ-append : (y : ℕ) (s t : List ℕ) → occ y (s ++ t) ≡ occ y s + occ y t
 unfolding occ
 occ-append y [] t = omega arith
@@ -32,11 +29,6 @@ occ-head x l = omega (arith, eqn-at x x refl)
 pub occ-opt : (o : Option ℕ) (i : ℕ) → o ≡ some i → occ i (opt o) ≡ 1
 unfolding occ
 occ-opt o i e = rw e (omega (arith, eqn-at i i refl))
-
-pub opt-occ : (o : Option ℕ) (i : ℕ) → 1 ≤ occ i (opt o) → o ≡ some i
-unfolding occ
-opt-occ none i h = absurd (omega arith)
-opt-occ (some k) i h = ap some (eqn-eq k i (omega arith))
 
 pub occ-opt-other : (o : Option ℕ) (i : ℕ) → (o ≡ some i → ⊥) → occ i (opt o) ≡ 0
 unfolding occ

@@ -9,18 +9,17 @@ use native.Mathlib.Numerals.{add-one}
 use native.Mathlib.Decide.{ℕ-discrete, decLt}
 use lib.Dec.{ltb, leb, eqb}
 use lib.ListN.{length, getD, set, take, drop, length-append, length-set, replicate, take-append-drop, length-take, length-drop, length-replicate, getD-replicate}
-use lib.Seq.{getD-set-same, getD-set-other, take-at, set-append-seam, append-snoc, take-append-le, drop-append-le, drop-append-add, getD-append-add, getD-drop, ext-getD, length-take-le}
+use lib.Seq.{getD-set-same, getD-set-other, take-at, take-append-le, drop-append-le, drop-append-add, getD-append-add, getD-drop, ext-getD, length-take-le}
 use borrow.Author.Tests.{ltb-true, eqb-true, lt-ltb, eq-eqb}
 use Rattle.lists.specs.Test.{_or_}
 use Rattle.lists.specs.Count.{occ}
-use Rattle.lists.specs.Order.{keep, upTo, byId, place, insertTail, insertHead, insertAll, firstFrom}
+use Rattle.lists.specs.Order.{keep, upTo, byId, place, insertTail, insertHead, insertAll}
 use Rattle.lists.specs.Table.{pad}
 use Rattle.lists.specs.TestLaws.{which, by-test, or-true, or-l, or-r, all-true, true-all}
 use Rattle.lists.specs.CountLaws.{eqn-at, eqn-other}
 use Rattle.lists.specs.OrderLaws.{keep-append}
-use Rattle.lists.specs.TableLaws.{length-snoc}
-use Rattle.rules.specs.Sizes.{levels}
-use Rattle.queues.specs.Queue.{places, noId, items, queueOf, restEmpty, keyOf, pushed, placeOf, insertedAt, inserted, kept, insertedIf, insertedFlagged, counted, idOf, waitsFor, bestOf}
+use Rattle.lists.specs.TableLaws.{pad-snoc}
+use Rattle.queues.specs.Queue.{places, noId, items, queueOf, restEmpty, keyOf, pushed, placeOf, insertedAt, inserted, kept, insertedIf, insertedFlagged, counted}
 use Rattle.queues.specs.declared.Queue.{Queue}
 
 -- two queues are equal where their parts are
@@ -36,17 +35,6 @@ length-open l p x = omega (arith, length-append (take p l) (x ∷ drop p l), len
 
 -- tables of N places of which the first hold a list
 module _ (N d : ℕ) where
-  pub length-pad : (l : List ℕ) → length l ≤ N → length (pad N d l) ≡ N
-  unfolding pad
-  length-pad l h = simp (length-append, length-replicate) (omega arith)
-
-  pub pad-snoc : (l : List ℕ) (x : ℕ) → length l < N → set (pad N d l) (length l) x ≡ pad N d (l ++ (x ∷ []))
-  unfolding pad
-  pad-snoc l x h = rw (length-snoc l x, append-snoc, less) (set-append-seam l d (replicate (N - suc (length l)) d) x)
-    where
-      less : N - length l ≡ suc (N - suc (length l))
-      less = omega arith
-
   -- x at place p, and what stood there and behind it one place on
   pub pad-open : (l : List ℕ) (p x : ℕ) → length l < N → p ≤ length l
       → (take p (pad N d l) ++ (x ∷ take (length l - p) (drop p (pad N d l)))) ++ drop (length l + 1) (pad N d l) ≡ pad N d (take p l ++ (x ∷ drop p l))
@@ -156,12 +144,6 @@ flagged-queueOf keys flags (suc n) l h =
 pub kept-queueOf : (flags : List ℕ) (v : ℕ) (l : List ℕ) → kept (queueOf l) flags v ≡ queueOf (keep (λ y. eqb (keyOf flags y) v) l)
 unfolding kept
 kept-queueOf flags v l = rw (items-queueOf l) refl
-
--- the best waiter of those who stand there
-pub best-queueOf : (kinds objects keys : List ℕ) (kind object : ℕ) (l : List ℕ)
-    → bestOf (queueOf l) kinds objects keys kind object ≡ idOf (firstFrom (keyOf keys) levels 0 (keep (waitsFor kinds objects kind object) l))
-unfolding bestOf
-best-queueOf kinds objects keys kind object l = rw (items-queueOf l) refl
 
 -- how often each stands there is added to its count
 pub length-counted : (c l : List ℕ) → length (counted c l) ≡ length c

@@ -18,12 +18,12 @@ pub const LEVELS: u8 = 32;
 
 #[repr(C)]
 pub struct Queue {
-    pub ids: [u8; 16],
+    pub ids: [u8; PLACES],
     pub n: u8,
 }
 
 // A task's number in a table; 0 for an id that has no place there.
-pub fn key_of(keys: [u8; 16], id: u8) -> u8
+pub fn key_of(keys: [u8; PLACES], id: u8) -> u8
     ensures { λ r. ⌜ r ≡ keyOf keys id ⌝ }
 {
     let i = id as usize;
@@ -61,7 +61,7 @@ pub fn push(q: Queue, id: u8) -> Queue
 }
 
 // The place of the first whose key is at least `t`, or behind all.
-pub fn place_of(q: Queue, keys: [u8; 16], t: u16) -> usize
+pub fn place_of(q: Queue, keys: [u8; PLACES], t: u16) -> usize
     ensures { λ r. ⌜ r ≡ placeOf keys t (items q) ⌝ }
 {
     let n = len(q);
@@ -101,7 +101,7 @@ fn insert_at(q: Queue, p: usize, id: u8) -> Queue
 }
 
 // The queue with `id` before the first whose key is at least `t`; a full one stays.
-pub fn insert(q: Queue, keys: [u8; 16], t: u16, id: u8) -> Queue
+pub fn insert(q: Queue, keys: [u8; PLACES], t: u16, id: u8) -> Queue
     ensures { λ r. ⌜ r ≡ inserted q keys t id ⌝ }
 {
     let p = place_of(q, keys, t);
@@ -109,12 +109,12 @@ pub fn insert(q: Queue, keys: [u8; 16], t: u16, id: u8) -> Queue
 }
 
 // The queue of those whose flag is `v`, in their order.
-pub fn keep_flagged(q: Queue, flags: [u8; 16], v: u8) -> Queue
+pub fn keep_flagged(q: Queue, flags: [u8; PLACES], v: u8) -> Queue
     ensures { λ r. ⌜ r ≡ kept q flags v ⌝ }
 {
     let n = len(q);
     let mut r = Queue {
-        ids: [NONE; 16],
+        ids: [NONE; PLACES],
         n: 0,
     };
     for i in 0..n {
@@ -127,7 +127,7 @@ pub fn keep_flagged(q: Queue, flags: [u8; 16], v: u8) -> Queue
 }
 
 // One task of `insert_flagged`.
-fn insert_if(q: Queue, keys: [u8; 16], flags: [u8; 16], id: u8) -> Queue
+fn insert_if(q: Queue, keys: [u8; PLACES], flags: [u8; PLACES], id: u8) -> Queue
     ensures { λ r. ⌜ r ≡ insertedIf q keys flags id ⌝ }
 {
     if key_of(flags, id) == 1 {
@@ -138,7 +138,7 @@ fn insert_if(q: Queue, keys: [u8; 16], flags: [u8; 16], id: u8) -> Queue
 }
 
 // The queue with each of the first `n` tasks whose flag is 1, by id, at the tail of its key.
-pub fn insert_flagged(q: Queue, keys: [u8; 16], flags: [u8; 16], n: u8) -> Queue
+pub fn insert_flagged(q: Queue, keys: [u8; PLACES], flags: [u8; PLACES], n: u8) -> Queue
     ensures { λ r. ⌜ r ≡ insertedFlagged q keys flags n ⌝ }
 {
     let mut r = q;
@@ -149,7 +149,7 @@ pub fn insert_flagged(q: Queue, keys: [u8; 16], flags: [u8; 16], n: u8) -> Queue
 }
 
 // The counts, each task's raised by how often it stands in the queue.
-pub fn count_in(c: [u8; 16], q: Queue) -> [u8; 16]
+pub fn count_in(c: [u8; PLACES], q: Queue) -> [u8; PLACES]
     ensures { λ r. ⌜ r ≡ counted c (items q) ⌝ }
 {
     let n = len(q);
@@ -164,7 +164,7 @@ pub fn count_in(c: [u8; 16], q: Queue) -> [u8; 16]
 }
 
 // Do the keys ascend?
-pub fn ascending(q: Queue, keys: [u8; 16]) -> bool
+pub fn ascending(q: Queue, keys: [u8; PLACES]) -> bool
     ensures { λ r. ⌜ r ≡ ascb (keyOf keys) (items q) ⌝ }
 {
     let n = len(q);
@@ -181,7 +181,7 @@ pub fn ascending(q: Queue, keys: [u8; 16]) -> bool
 }
 
 // Do neighbours of equal keys stand by id?
-pub fn ties_by_id(q: Queue, keys: [u8; 16]) -> bool
+pub fn ties_by_id(q: Queue, keys: [u8; PLACES]) -> bool
     ensures { λ r. ⌜ r ≡ tiesb (keyOf keys) (items q) ⌝ }
 {
     let n = len(q);
@@ -228,9 +228,9 @@ pub fn rest_empty(q: Queue) -> bool
 // The best waiter for an object: the first found going through the levels and, in a level, oldest wait first; NONE where nobody waits.
 pub fn best_waiter(
     q: Queue,
-    kinds: [u8; 16],
-    objects: [u8; 16],
-    keys: [u8; 16],
+    kinds: [u8; PLACES],
+    objects: [u8; PLACES],
+    keys: [u8; PLACES],
     kind: u8,
     object: u8,
 ) -> u8
@@ -257,9 +257,9 @@ pub fn best_waiter(
 // Does the task wait for the object, at this level?
 fn waits_at(
     id: u8,
-    kinds: [u8; 16],
-    objects: [u8; 16],
-    keys: [u8; 16],
+    kinds: [u8; PLACES],
+    objects: [u8; PLACES],
+    keys: [u8; PLACES],
     kind: u8,
     object: u8,
     l: u8,

@@ -30,24 +30,6 @@ unfolding waitCount
 wait-none none h = refl
 wait-none (some w) h = absurd (omega arith)
 
-pub awaited-same : (a b : Awaited) → sameAwaited a b ≡ true → a ≡ b
-unfolding sameAwaited
-awaited-same (mutexOf m) (mutexOf n) e = ap mutexOf (eqb-true m n e)
-awaited-same (mutexOf m) (semOf k) e = absurd (clash e refl)
-awaited-same (mutexOf m) time e = absurd (clash e refl)
-awaited-same (semOf k) (mutexOf m) e = absurd (clash e refl)
-awaited-same (semOf k) (semOf j) e = ap semOf (eqb-true k j e)
-awaited-same (semOf k) time e = absurd (clash e refl)
-awaited-same time (mutexOf m) e = absurd (clash e refl)
-awaited-same time (semOf k) e = absurd (clash e refl)
-awaited-same time time e = refl
-
-awaited-refl : (a : Awaited) → sameAwaited a a ≡ true
-unfolding sameAwaited
-awaited-refl (mutexOf m) = eq-eqb m m refl
-awaited-refl (semOf k) = eq-eqb k k refl
-awaited-refl time = refl
-
 -- who waits for a waits
 pub awaits-waits : (w : Option Wait) (a : Awaited) → waitIsFor w a ≡ true → waitCount w ≡ 1
 unfolding waitIsFor waitCount

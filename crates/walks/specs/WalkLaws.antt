@@ -10,7 +10,7 @@ use lib.ListN.{length, getD, set, length-set, List·getD-eq-default}
 use lib.Seq.{getD-set-same, getD-set-other, set-out}
 use borrow.Author.Tests.{lt-ltb, le-ltb}
 use Rattle.lists.specs.Count.{eqn, occ, member}
-use Rattle.lists.specs.TestLaws.{by-test, none-some, some-same}
+use Rattle.lists.specs.TestLaws.{by-test, some-same}
 use Rattle.lists.specs.CountLaws.{eqn-at, eqn-other}
 use Rattle.chains.specs.Chain.{walk, endsb}
 use Rattle.chains.specs.Least.{least, leadsTo, leastLeading}
@@ -31,13 +31,6 @@ module _ (x : ℕ) where
   pub task-out : maxTasks ≤ x → taskAt x ≡ none
   task-out h = rw (le-ltb x maxTasks h) refl
 
-  -- what an id stands for is below the number of tasks there can be
-  pub task-below : (j : ℕ) → taskAt x ≡ some j → (x ≡ j) × (j < maxTasks)
-  task-below j e = elim (decLt x maxTasks) [
-    | yes h ↦ (let q : x ≡ j = some-same (sym (task-in h) ∙ e) in (q, omega arith))
-    | no h ↦ none-some (task-out (omega arith)) e
-  ]
-
 -- the task after i
 module _ (next : List ℕ) (i : ℕ) where
   pub next-in : i < maxTasks → nextIn next i ≡ taskAt (getD next i 0)
@@ -45,12 +38,6 @@ module _ (next : List ℕ) (i : ℕ) where
 
   pub next-out : maxTasks ≤ i → nextIn next i ≡ none
   next-out h = rw (le-ltb i maxTasks h) refl
-
-  pub next-below : (j : ℕ) → nextIn next i ≡ some j → (i < maxTasks) × (getD next i 0 ≡ j) × (j < maxTasks)
-  next-below j e = elim (decLt i maxTasks) [
-    | yes h ↦ (let b = task-below (getD next i 0) j (sym (next-in h) ∙ e) in (h, b .0, b .1))
-    | no h ↦ none-some (next-out (omega arith)) e
-  ]
 
   -- whatever stands for a place that the table lacks
   pub next-is : length next ≡ maxTasks → nextIn next i ≡ taskAt (getD next i noId)

@@ -7,13 +7,14 @@ ghost use Rattle.lists.specs.Test.{allb};
 ghost use Rattle.lists.specs.Count.{member};
 ghost use Rattle.lists.specs.Order.{before};
 ghost use Rattle.chains.specs.Chain.{endsb};
+ghost use Rattle.rules.specs.Sizes.{maxTasks};
 ghost use Rattle.walks.specs.Walk.{taskAt, nextIn, lifted, raised, chainFrom};
 
 // How many tasks there can be.
 pub const TASKS: usize = 16;
 
 // Each task on the chain from `at` raised to `p`; the fuel, tasks not yet seen, falls at each call.
-pub fn lift(levels: [u8; 16], next: &[u8; 16], at: u8, p: u8, fuel: u8) -> [u8; 16]
+pub fn lift(levels: [u8; TASKS], next: &[u8; TASKS], at: u8, p: u8, fuel: u8) -> [u8; TASKS]
     ensures { λ r. ⌜ r ≡ lifted levels p (chainFrom (now (next .entry)) at fuel) ⌝ }
 {
     if fuel == 0 {
@@ -31,8 +32,8 @@ pub fn lift(levels: [u8; 16], next: &[u8; 16], at: u8, p: u8, fuel: u8) -> [u8; 
 }
 
 // The least own priority among each task and all tasks whose chain leads to it, of the first `n` tasks.
-pub fn levels_of(own: [u8; 16], next: &[u8; 16], n: u8) -> [u8; 16]
-    ensures { λ r. ⌜ r ≡ raised own (now (next .entry)) n (min n 16) ⌝ }
+pub fn levels_of(own: [u8; TASKS], next: &[u8; TASKS], n: u8) -> [u8; TASKS]
+    ensures { λ r. ⌜ r ≡ raised own (now (next .entry)) n (min n maxTasks) ⌝ }
 {
     let mut l = own;
     let mut j: u8 = 0;
@@ -55,7 +56,7 @@ pub struct Found {
 }
 
 // The chain from `at` to its end, or to the caller; the fuel, tasks not yet seen, falls at each call.
-pub fn follow(next: &[u8; 16], at: u8, caller: u8, fuel: u8) -> Found
+pub fn follow(next: &[u8; TASKS], at: u8, caller: u8, fuel: u8) -> Found
     ensures { λ r. ⌜ (r .links ≡ length (before caller (chainFrom (now (next .entry)) at fuel))) × (r .ring ≡ member caller (chainFrom (now (next .entry)) at fuel)) ⌝ }
 {
     let mut f = Found {
@@ -79,7 +80,7 @@ pub fn follow(next: &[u8; 16], at: u8, caller: u8, fuel: u8) -> Found
 }
 
 // Does the chain from `at` end within the fuel?
-pub fn ends(next: &[u8; 16], at: u8, fuel: u8) -> bool
+pub fn ends(next: &[u8; TASKS], at: u8, fuel: u8) -> bool
     ensures { λ r. ⌜ r ≡ endsb fuel (nextIn (now (next .entry))) (taskAt at) ⌝ }
 {
     let i = at as usize;
@@ -93,8 +94,8 @@ pub fn ends(next: &[u8; 16], at: u8, fuel: u8) -> bool
 }
 
 // Does the chain of each of the first `n` tasks end?
-pub fn all_end(next: &[u8; 16], n: u8) -> bool
-    ensures { λ r. ⌜ r ≡ allb (min n 16) (λ i. endsb n (nextIn (now (next .entry))) (nextIn (now (next .entry)) i)) ⌝ }
+pub fn all_end(next: &[u8; TASKS], n: u8) -> bool
+    ensures { λ r. ⌜ r ≡ allb (min n maxTasks) (λ i. endsb n (nextIn (now (next .entry))) (nextIn (now (next .entry)) i)) ⌝ }
 {
     let mut t: u8 = 0;
     while t < n {
@@ -111,8 +112,8 @@ pub fn all_end(next: &[u8; 16], n: u8) -> bool
 }
 
 // Do two tables agree on the first `n` tasks?
-pub fn agree(a: [u8; 16], b: [u8; 16], n: u8) -> bool
-    ensures { λ r. ⌜ r ≡ allb (min n 16) (λ i. eqb (getD a i 0) (getD b i 0)) ⌝ }
+pub fn agree(a: [u8; TASKS], b: [u8; TASKS], n: u8) -> bool
+    ensures { λ r. ⌜ r ≡ allb (min n maxTasks) (λ i. eqb (getD a i 0) (getD b i 0)) ⌝ }
 {
     let mut k: u8 = 0;
     while k < n {

@@ -12,15 +12,15 @@ returns : tie.Need-returns
 unfolding mutexAdded
 returns c = simp (le-ltb _ _ (c .if1 .taken))
 
-element-write-r : tie.Need-element-write-r
-element-write-r c = search needs
+element-write-m : tie.Need-element-write-m
+element-write-m c = search needs
 
-add-r : tie.Need-add-r
-add-r c = search needs
+add-m : tie.Need-add-m
+add-m c = search needs
 
 returns-2 : tie.Need-returns-2
 unfolding mutexAdded
-returns-2 c = simp (lt-ltb _ _ (c .before .if1 .left))
+returns-2 c = simp (lt-ltb _ _ (c .if1 .left))
 
 pub add-mutex-spec : {M : Type 1} → statement M
-add-mutex-spec = tie.close (tie.spec cast-i returns element-write-r add-r returns-2)
+add-mutex-spec = tie.close (tie.spec cast-i returns element-write-m add-m returns-2)

@@ -12,26 +12,26 @@ returns : tie.Need-returns
 unfolding semAdded
 returns c = simp (le-ltb _ _ (c .if1 .taken))
 
-mul-r : tie.Need-mul-r
-mul-r c = search needs
+mul-c : tie.Need-mul-c
+mul-c c = search needs
 
-element-write-r : tie.Need-element-write-r
-element-write-r c = search needs
+element-write-c : tie.Need-element-write-c
+element-write-c c = search needs
 
-mul-r-2 : tie.Need-mul-r-2
-mul-r-2 c = search needs
+mul-c-2 : tie.Need-mul-c-2
+mul-c-2 c = search needs
 
-element-write-r-2 : tie.Need-element-write-r-2
-element-write-r-2 c = search needs
+element-write-c-2 : tie.Need-element-write-c-2
+element-write-c-2 c = search needs
 
-add-r : tie.Need-add-r
-add-r c = search needs
+add-c : tie.Need-add-c
+add-c c = search needs
 
 returns-2 : tie.Need-returns-2
 unfolding semAdded
-returns-2 c = simp (lt-ltb _ _ (c .before .if1 .left))
+returns-2 c = simp (lt-ltb _ _ (c .if1 .left))
 
 pub add-semaphore-spec : {M : Type 1} → statement M
 add-semaphore-spec =
     tie.close
-    (tie.spec cast-i returns mul-r element-write-r mul-r-2 element-write-r-2 add-r returns-2)
+    (tie.spec cast-i returns mul-c element-write-c mul-c-2 element-write-c-2 add-c returns-2)

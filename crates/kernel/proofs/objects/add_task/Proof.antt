@@ -12,19 +12,19 @@ returns : tie.Need-returns
 unfolding taskAdded
 returns c = simp (le-ltb _ _ (c .if1 .taken))
 
-element-write-r : tie.Need-element-write-r
-element-write-r c = search needs
+element-write-t : tie.Need-element-write-t
+element-write-t c = search needs
 
-element-write-r-2 : tie.Need-element-write-r-2
-element-write-r-2 c = search needs
+element-write-t-2 : tie.Need-element-write-t-2
+element-write-t-2 c = search needs
 
-add-r : tie.Need-add-r
-add-r c = search needs
+add-t : tie.Need-add-t
+add-t c = search needs
 
 returns-2 : tie.Need-returns-2
 unfolding taskAdded
-returns-2 c = simp (lt-ltb _ _ (c .before .if1 .left))
+returns-2 c = simp (lt-ltb _ _ (c .if1 .left))
 
 pub add-task-spec : {M : Type 1} → statement M
 add-task-spec =
-    tie.close (tie.spec cast-i returns element-write-r element-write-r-2 add-r returns-2)
+    tie.close (tie.spec cast-i returns element-write-t element-write-t-2 add-t returns-2)

@@ -9,15 +9,15 @@ returns : tie.Need-returns
 unfolding countSet
 returns c = simp (le-ltb _ _ (c .if1 .taken))
 
-mul-r : tie.Need-mul-r
-mul-r c = search needs
+mul-c : tie.Need-mul-c
+mul-c c = search needs
 
-element-write-r : tie.Need-element-write-r
-element-write-r c = search needs
+element-write-c : tie.Need-element-write-c
+element-write-c c = search needs
 
 returns-2 : tie.Need-returns-2
 unfolding countSet
 returns-2 c = simp (lt-ltb _ _ (c .if1 .left))
 
 pub set-count-spec : {M : Type 1} → statement M
-set-count-spec = tie.close (tie.spec returns mul-r element-write-r returns-2)
+set-count-spec = tie.close (tie.spec returns mul-c element-write-c returns-2)

@@ -9,12 +9,12 @@ returns : tie.Need-returns
 unfolding ownerSet
 returns c = simp (le-ltb _ _ (c .if1 .taken))
 
-element-write-r : tie.Need-element-write-r
-element-write-r c = search needs
+element-write-m : tie.Need-element-write-m
+element-write-m c = search needs
 
 returns-2 : tie.Need-returns-2
 unfolding ownerSet
 returns-2 c = simp (lt-ltb _ _ (c .if1 .left))
 
 pub set-owner-spec : {M : Type 1} → statement M
-set-owner-spec = tie.close (tie.spec returns element-write-r returns-2)
+set-owner-spec = tie.close (tie.spec returns element-write-m returns-2)

@@ -1,4 +1,5 @@
 -- `kernel::settle::dispatch` meets its contract.
+use native.Mathlib.Omega.{arith}
 use borrow.Author.Needs.{needs}
 use borrow.Author.Tests.{eq-eqb, le-ltb, lt-ltb, ne-eqb}
 use mathlib.Core.Path.{_∙_}
@@ -42,11 +43,11 @@ displace-requires c κs = search needs
 
 returns-5 : tie.Need-returns-5
 unfolding dispatched
-returns-5 c = c .displace .ensures ∙ rw (← c .before .before .key-of2 .ensures, ← c .before .before .before .key-of .ensures, lt-ltb _ _ (c .before .if5 .taken), eq-eqb _ _ (c .before .before .before .before .before .before .if4 .left), ne-eqb _ _ (c .before .before .before .before .before .before .before .before .if3 .left), ne-eqb _ _ (c .before .before .before .before .before .before .before .before .before .before .before .if2 .left), ne-eqb _ _ (c .before .before .before .before .before .before .before .before .before .before .before .before .before .if1 .left))
+returns-5 c = c .displace .ensures ∙ rw (← c .before .before .key-of2 .ensures, ← c .before .before .before .key-of .ensures, lt-ltb (c .before .before .before .key-of .result) (c .before .before .key-of2 .result) (omega (arith, c .before .if5 .taken)), eq-eqb _ _ (c .before .before .before .before .before .before .if4 .left), ne-eqb _ _ (c .before .before .before .before .before .before .before .before .if3 .left), ne-eqb _ _ (c .before .before .before .before .before .before .before .before .before .before .before .if2 .left), ne-eqb _ _ (c .before .before .before .before .before .before .before .before .before .before .before .before .before .if1 .left))
 
 returns-6 : tie.Need-returns-6
 unfolding dispatched
-returns-6 c = simp (← c .before .key-of2 .ensures, ← c .before .before .key-of .ensures, le-ltb _ _ (c .if5 .left), eq-eqb _ _ (c .before .before .before .before .before .if4 .left), ne-eqb _ _ (c .before .before .before .before .before .before .before .if3 .left), ne-eqb _ _ (c .before .before .before .before .before .before .before .before .before .before .if2 .left), ne-eqb _ _ (c .before .before .before .before .before .before .before .before .before .before .before .before .if1 .left))
+returns-6 c = simp (← c .before .key-of2 .ensures, ← c .before .before .key-of .ensures, le-ltb (c .before .before .key-of .result) (c .before .key-of2 .result) (omega (arith, c .if5 .left)), eq-eqb _ _ (c .before .before .before .before .before .if4 .left), ne-eqb _ _ (c .before .before .before .before .before .before .before .if3 .left), ne-eqb _ _ (c .before .before .before .before .before .before .before .before .before .before .if2 .left), ne-eqb _ _ (c .before .before .before .before .before .before .before .before .before .before .before .before .if1 .left))
 
 pub dispatch-spec : {M : Type 1} → statement M
 dispatch-spec =

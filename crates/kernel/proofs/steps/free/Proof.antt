@@ -26,8 +26,8 @@ returns-3 : tie.Need-returns-3
 unfolding freeStep calledBy
 returns-3 c = simp (c .refused3 .ensures, eq-eqb _ _ (c .before .if3 .taken), ne-eqb _ _ (c .before .before .before .if2 .left), ne-eqb _ _ (c .before .before .before .before .before .if1 .left))
 
-sub-r : tie.Need-sub-r
-sub-r c = search needs
+sub-s : tie.Need-sub-s
+sub-s c = search needs
 
 dispatch-requires : tie.Need-dispatch-requires
 dispatch-requires c κs = search needs
@@ -49,7 +49,7 @@ free-spec =
     returns-2
     refused-requires-3
     returns-3
-    sub-r
+    sub-s
     dispatch-requires
     accepted-requires
     returns-4)

@@ -26,8 +26,8 @@ returns-3 : tie.Need-returns-3
 unfolding holdStep calledBy
 returns-3 c = simp (c .refused3 .ensures, le-leb _ _ (c .before .if3 .taken), ne-eqb _ _ (c .before .before .before .if2 .left), ne-eqb _ _ (c .before .before .before .before .before .if1 .left))
 
-add-r : tie.Need-add-r
-add-r c = search needs
+add-s : tie.Need-add-s
+add-s c = search needs
 
 accepted-requires : tie.Need-accepted-requires
 accepted-requires c κs = search needs
@@ -46,6 +46,6 @@ hold-spec =
     returns-2
     refused-requires-3
     returns-3
-    add-r
+    add-s
     accepted-requires
     returns-4)

@@ -1,23 +1,19 @@
 -- `kernel::steps::lock_waits` meets its contract.
 use borrow.Author.Needs.{needs}
 use borrow.Author.Tests.{eq-eqb, ne-eqb}
-use Rattle.kernel.specs.Machine.{lockWaits}
+use Rattle.kernel.specs.Machine.{lockWaits, mayWait}
 use Rattle.kernel.proofs.steps.lock_waits.Statement.{statement}
 use Rattle.kernel.proofs.steps.lock_waits.Tie as tie
+
+wait-refusal-requires : tie.Need-wait-refusal-requires
+wait-refusal-requires c κs = search needs
 
 refused-requires : tie.Need-refused-requires
 refused-requires c κs = search needs
 
 returns : tie.Need-returns
-unfolding lockWaits
-returns c = simp (c .refused .ensures, eq-eqb _ _ (c .before .if1 .taken))
-
-refused-requires-2 : tie.Need-refused-requires-2
-refused-requires-2 c κs = search needs
-
-returns-2 : tie.Need-returns-2
-unfolding lockWaits
-returns-2 c = simp (c .refused2 .ensures, ne-eqb _ _ (c .before .if2 .taken), ne-eqb _ _ (c .before .before .before .if1 .left))
+unfolding lockWaits mayWait
+returns c = simp (c .refused .ensures, ← c .before .before .wait-refusal .ensures, ne-eqb _ _ (c .before .if1 .taken))
 
 next-of-requires : tie.Need-next-of-requires
 next-of-requires c κs = search needs
@@ -31,12 +27,12 @@ follow-requires c κs = search needs
 cast-refused : tie.Need-cast-refused
 cast-refused c = search needs
 
-refused-requires-3 : tie.Need-refused-requires-3
-refused-requires-3 c κs = search needs
+refused-requires-2 : tie.Need-refused-requires-2
+refused-requires-2 c κs = search needs
 
-returns-3 : tie.Need-returns-3
-unfolding lockWaits
-returns-3 c = simp (c .refused3 .ensures, ← c .before .before .before .follow .ensures .0, ← c .before .before .before .follow .ensures .1, ← c .before .before .before .before .owner-at .ensures, ← c .before .before .before .before .before .before .next-of .ensures, c .before .before .if3 .taken, eq-eqb _ _ (c .before .before .before .before .before .before .before .before .before .if2 .left), ne-eqb _ _ (c .before .before .before .before .before .before .before .before .before .before .before .if1 .left))
+returns-2 : tie.Need-returns-2
+unfolding lockWaits mayWait
+returns-2 c = simp (c .refused2 .ensures, ← c .before .before .before .follow .ensures .0, ← c .before .before .before .follow .ensures .1, ← c .before .before .before .before .owner-at .ensures, ← c .before .before .before .before .before .before .next-of .ensures, c .before .before .if2 .taken, ← c .before .before .before .before .before .before .before .before .before .before .wait-refusal .ensures, eq-eqb _ _ (c .before .before .before .before .before .before .before .before .before .if1 .left))
 
 block-requires : tie.Need-block-requires
 block-requires c κs = search needs
@@ -53,27 +49,26 @@ cast-accepted c = search needs
 accepted-requires : tie.Need-accepted-requires
 accepted-requires c κs = search needs
 
-returns-4 : tie.Need-returns-4
-unfolding lockWaits
-returns-4 c = simp (c .accepted .ensures, c .before .before .dispatch .ensures, c .before .before .before .settle .ensures, c .before .before .before .before .block .ensures, ← c .before .before .before .before .before .before .follow .ensures .0, ← c .before .before .before .before .before .before .follow .ensures .1, ← c .before .before .before .before .before .before .before .owner-at .ensures, ← c .before .before .before .before .before .before .before .before .before .next-of .ensures, c .before .before .before .before .before .if3 .left, eq-eqb _ _ (c .before .before .before .before .before .before .before .before .before .before .before .before .if2 .left), ne-eqb _ _ (c .before .before .before .before .before .before .before .before .before .before .before .before .before .before .if1 .left))
+returns-3 : tie.Need-returns-3
+unfolding lockWaits mayWait
+returns-3 c = simp (c .accepted .ensures, c .before .before .dispatch .ensures, c .before .before .before .settle .ensures, c .before .before .before .before .block .ensures, ← c .before .before .before .before .before .before .follow .ensures .0, ← c .before .before .before .before .before .before .follow .ensures .1, ← c .before .before .before .before .before .before .before .owner-at .ensures, ← c .before .before .before .before .before .before .before .before .before .next-of .ensures, c .before .before .before .before .before .if2 .left, ← c .before .before .before .before .before .before .before .before .before .before .before .before .before .wait-refusal .ensures, eq-eqb _ _ (c .before .before .before .before .before .before .before .before .before .before .before .before .if1 .left))
 
 pub lock-waits-spec : {M : Type 1} → statement M
 lock-waits-spec =
     tie.close
     (tie.spec
+    wait-refusal-requires
     refused-requires
     returns
-    refused-requires-2
-    returns-2
     next-of-requires
     owner-at-requires
     follow-requires
     cast-refused
-    refused-requires-3
-    returns-3
+    refused-requires-2
+    returns-2
     block-requires
     settle-requires
     dispatch-requires
     cast-accepted
     accepted-requires
-    returns-4)
+    returns-3)

@@ -2,7 +2,7 @@
 use borrow.Author.Needs.{needs}
 use borrow.Author.Tests.{eq-eqb, le-leb, lt-leb, ne-eqb, not-false, not-true}
 use mathlib.Core.Path.{_∙_}
-use Rattle.kernel.specs.Machine.{calledBy, pendStep}
+use Rattle.kernel.specs.Machine.{calledBy, mayWait, pendStep}
 use Rattle.kernel.proofs.steps.pend.Statement.{statement}
 use Rattle.kernel.proofs.steps.pend.Tie as tie
 
@@ -59,19 +59,15 @@ returns-5 : tie.Need-returns-5
 unfolding pendStep calledBy
 returns-5 c = c .accepted .ensures ∙ rw (c .before .set-count .ensures, ← c .before .before .before .count-at .ensures, ← c .before .before .before .before .before .is-time .ensures, ne-eqb _ _ (c .before .before .if5 .taken), not-false (c .before .before .before .before .before .is-time .result) (c .before .before .before .before .if4 .left), lt-leb _ _ (c .before .before .before .before .before .before .if3 .left), ne-eqb _ _ (c .before .before .before .before .before .before .before .before .if2 .left), ne-eqb _ _ (c .before .before .before .before .before .before .before .before .before .before .if1 .left))
 
+wait-refusal-requires : tie.Need-wait-refusal-requires
+wait-refusal-requires c κs = search needs
+
 refused-requires-5 : tie.Need-refused-requires-5
 refused-requires-5 c κs = search needs
 
 returns-6 : tie.Need-returns-6
-unfolding pendStep calledBy
-returns-6 c = simp (c .refused5 .ensures, ← c .before .before .before .count-at .ensures, ← c .before .before .before .before .before .is-time .ensures, eq-eqb _ _ (c .before .if6 .taken), eq-eqb _ _ (c .before .before .if5 .left), not-false (c .before .before .before .before .before .is-time .result) (c .before .before .before .before .if4 .left), lt-leb _ _ (c .before .before .before .before .before .before .if3 .left), ne-eqb _ _ (c .before .before .before .before .before .before .before .before .if2 .left), ne-eqb _ _ (c .before .before .before .before .before .before .before .before .before .before .if1 .left))
-
-refused-requires-6 : tie.Need-refused-requires-6
-refused-requires-6 c κs = search needs
-
-returns-7 : tie.Need-returns-7
-unfolding pendStep calledBy
-returns-7 c = simp (c .refused6 .ensures, ← c .before .before .before .before .before .count-at .ensures, ← c .before .before .before .before .before .before .before .is-time .ensures, ne-eqb _ _ (c .before .if7 .taken), ne-eqb _ _ (c .before .before .before .if6 .left), eq-eqb _ _ (c .before .before .before .before .if5 .left), not-false (c .before .before .before .before .before .before .before .is-time .result) (c .before .before .before .before .before .before .if4 .left), lt-leb _ _ (c .before .before .before .before .before .before .before .before .if3 .left), ne-eqb _ _ (c .before .before .before .before .before .before .before .before .before .before .if2 .left), ne-eqb _ _ (c .before .before .before .before .before .before .before .before .before .before .before .before .if1 .left))
+unfolding pendStep calledBy mayWait
+returns-6 c = simp (c .refused5 .ensures, ← c .before .before .wait-refusal .ensures, ne-eqb _ _ (c .before .if6 .taken), ← c .before .before .before .before .count-at .ensures, ← c .before .before .before .before .before .before .is-time .ensures, eq-eqb _ _ (c .before .before .before .if5 .left), not-false (c .before .before .before .before .before .before .is-time .result) (c .before .before .before .before .before .if4 .left), lt-leb _ _ (c .before .before .before .before .before .before .before .if3 .left), ne-eqb _ _ (c .before .before .before .before .before .before .before .before .before .if2 .left), ne-eqb _ _ (c .before .before .before .before .before .before .before .before .before .before .before .if1 .left))
 
 block-requires : tie.Need-block-requires
 block-requires c κs = search needs
@@ -82,9 +78,9 @@ dispatch-requires c κs = search needs
 accepted-requires-2 : tie.Need-accepted-requires-2
 accepted-requires-2 c κs = search needs
 
-returns-8 : tie.Need-returns-8
-unfolding pendStep calledBy
-returns-8 c = simp (c .accepted2 .ensures, c .before .dispatch .ensures, c .before .before .block .ensures, ← c .before .before .before .before .before .before .before .count-at .ensures, ← c .before .before .before .before .before .before .before .before .before .is-time .ensures, eq-eqb _ _ (c .before .before .before .if7 .left), ne-eqb _ _ (c .before .before .before .before .before .if6 .left), eq-eqb _ _ (c .before .before .before .before .before .before .if5 .left), not-false (c .before .before .before .before .before .before .before .before .before .is-time .result) (c .before .before .before .before .before .before .before .before .if4 .left), lt-leb _ _ (c .before .before .before .before .before .before .before .before .before .before .if3 .left), ne-eqb _ _ (c .before .before .before .before .before .before .before .before .before .before .before .before .if2 .left), ne-eqb _ _ (c .before .before .before .before .before .before .before .before .before .before .before .before .before .before .if1 .left))
+returns-7 : tie.Need-returns-7
+unfolding pendStep calledBy mayWait
+returns-7 c = simp (c .accepted2 .ensures, c .before .dispatch .ensures, c .before .before .block .ensures, ← c .before .before .before .before .wait-refusal .ensures, eq-eqb _ _ (c .before .before .before .if6 .left), ← c .before .before .before .before .before .before .count-at .ensures, ← c .before .before .before .before .before .before .before .before .is-time .ensures, eq-eqb _ _ (c .before .before .before .before .before .if5 .left), not-false (c .before .before .before .before .before .before .before .before .is-time .result) (c .before .before .before .before .before .before .before .if4 .left), lt-leb _ _ (c .before .before .before .before .before .before .before .before .before .if3 .left), ne-eqb _ _ (c .before .before .before .before .before .before .before .before .before .before .before .if2 .left), ne-eqb _ _ (c .before .before .before .before .before .before .before .before .before .before .before .before .before .if1 .left))
 
 pub pend-spec : {M : Type 1} → statement M
 pend-spec =
@@ -106,11 +102,10 @@ pend-spec =
     set-count-requires
     accepted-requires
     returns-5
+    wait-refusal-requires
     refused-requires-5
     returns-6
-    refused-requires-6
-    returns-7
     block-requires
     dispatch-requires
     accepted-requires-2
-    returns-8)
+    returns-7)

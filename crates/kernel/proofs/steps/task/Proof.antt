@@ -12,6 +12,9 @@ returns : tie.Need-returns
 unfolding taskStep
 returns c = simp (c .refused .ensures, ne-eqb _ _ (c .before .if1 .taken))
 
+cast-if2 : tie.Need-cast-if2
+cast-if2 c = search needs
+
 refused-requires-2 : tie.Need-refused-requires-2
 refused-requires-2 c κs = search needs
 
@@ -57,6 +60,7 @@ task-spec =
     (tie.spec
     refused-requires
     returns
+    cast-if2
     refused-requires-2
     returns-2
     refused-requires-3
