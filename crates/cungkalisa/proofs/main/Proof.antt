@@ -1,0 +1,78 @@
+-- `main`: the buffers keep their lengths, and the turns left fall.
+use borrow.Author.Needs.{needs}
+use mathlib.Core.Path.{_≡_}
+use lib.ListN.{length}
+use Rattle.cungkalisa.proofs.main.Statement.{statement}
+use Rattle.cungkalisa.proofs.main.Tie as tie
+use Rattle.cungkalisa.proofs.main.Reads as reads
+use Rattle.cungkalisa.proofs.main.Lts as lts
+use Rattle.cungkalisa.proofs.one_turn.Reads as one-turn-reads
+use Rattle.script.proofs.session.begin.Reads as begin-reads
+
+abbrev Inv-loop : tie.InvT-loop
+Inv-loop carry₀ piece₀ log₀ s₀ turns₀ carry piece log s turns = (length carry ≡ 80) × (length piece ≡ 1536) × (length log ≡ 50688)
+
+abbrev μ-loop : tie.MeasureT-loop
+μ-loop carry₀ piece₀ log₀ s₀ turns₀ carry piece log s turns = turns
+
+-- src/main.rt:76:9
+begin-requires : tie.Need-begin-requires Inv-loop μ-loop
+begin-requires c κs = search needs
+
+-- src/main.rt:78:5
+loop-holds : tie.Need-loop-holds Inv-loop μ-loop
+loop-holds c = search needs
+
+-- src/main.rt:79:29
+slice-aggregate-one-turn : tie.Need-slice-aggregate-one-turn Inv-loop μ-loop
+slice-aggregate-one-turn c = search needs
+
+-- src/main.rt:79:41
+slice-aggregate-one-turn-2 : tie.Need-slice-aggregate-one-turn-2 Inv-loop μ-loop
+slice-aggregate-one-turn-2 c = search needs
+
+-- src/main.rt:79:53
+slice-aggregate-one-turn-3 : tie.Need-slice-aggregate-one-turn-3 Inv-loop μ-loop
+slice-aggregate-one-turn-3 c = search needs
+
+-- src/main.rt:79:13
+one-turn-requires : tie.Need-one-turn-requires Inv-loop μ-loop
+one-turn-requires c κs = search needs
+
+-- src/main.rt:81:13
+returns : tie.Need-returns Inv-loop μ-loop
+returns c = search needs
+
+-- src/main.rt:84:9
+sub-turns : tie.Need-sub-turns Inv-loop μ-loop
+sub-turns c = search needs
+
+-- src/main.rt:78:5
+loop-less : tie.Need-loop-less Inv-loop μ-loop
+loop-less c = search needs
+
+-- src/main.rt:78:5
+loop-again : tie.Need-loop-again Inv-loop μ-loop
+loop-again c = search needs
+
+-- src/main.rt:72:1
+returns-2 : tie.Need-returns-2 Inv-loop μ-loop
+returns-2 c = search needs
+
+pub main-spec : {M : Type 1} → statement M
+main-spec =
+    tie.close
+    (tie.spec
+    Inv-loop
+    μ-loop
+    begin-requires
+    loop-holds
+    slice-aggregate-one-turn
+    slice-aggregate-one-turn-2
+    slice-aggregate-one-turn-3
+    one-turn-requires
+    returns
+    sub-turns
+    loop-less
+    loop-again
+    returns-2)

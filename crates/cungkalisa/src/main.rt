@@ -1,0 +1,86 @@
+// Replays a script: standard input to standard output. All that matters is in the library `script`.
+use libc::STDIN_FILENO;
+use libc::STDOUT_FILENO;
+use script::run::OVER;
+use script::session;
+use script::session::Session;
+use text::arrive::LONGEST;
+use text::cut;
+
+// How many bytes of the script are read at a time. A line takes one byte at least and its log line at most
+// 33, so the log memory has room for the log of each piece; carry, piece and log together stay below 64 KiB.
+const PIECE: usize = 1536;
+
+const ROOM: usize = 50688;
+
+// The session then, and whether there is more to do.
+struct Turn {
+    session: Session,
+    more: bool,
+}
+
+// Writes the log's first n bytes.
+fn put(log: &[u8], n: usize) -> bool {
+    let is_written = io::write_all(STDOUT_FILENO, cut::part(log, 0, n));
+    if !is_written {
+        os::fail(b"write");
+    }
+    is_written
+}
+
+// The script has ended.
+fn close(s: Session, carry: &[u8], log: &mut [u8]) {
+    let m = session::end(s, carry, log);
+    put(log, m.written);
+}
+
+// A piece of the script, and its log written.
+fn replay(s: Session, carry: &mut [u8], bytes: &[u8], log: &mut [u8]) -> Turn {
+    let m = session::arrive(s, carry, bytes, log);
+    let next = m.session;
+    if put(log, m.written) {
+        return Turn {
+            session: next,
+            more: next.stage != OVER,
+        };
+    }
+    Turn {
+        session: next,
+        more: false,
+    }
+}
+
+// Reads once, and writes the log of what came before it waits for more.
+fn one_turn(s: Session, carry: &mut [u8], piece: &mut [u8], log: &mut [u8]) -> Turn {
+    let got = libc::read(STDIN_FILENO, piece);
+    if got > 0 {
+        let n = io::count(got, piece);
+        return replay(s, carry, &piece[..n], log);
+    }
+    if got < 0 {
+        os::fail(b"read");
+    } else {
+        close(s, carry, log);
+    }
+    Turn {
+        session: s,
+        more: false,
+    }
+}
+
+// A proved loop has to end, and nothing says that an input does. So it counts its turns down, from a number that no run uses up.
+fn main() {
+    let mut carry = [0u8; LONGEST];
+    let mut piece = [0u8; PIECE];
+    let mut log = [0u8; ROOM];
+    let mut s = session::begin();
+    let mut turns = u64::MAX;
+    while turns > 0 {
+        let t = one_turn(s, &mut carry, &mut piece, &mut log);
+        if !t.more {
+            return;
+        }
+        s = t.session;
+        turns -= 1;
+    }
+}

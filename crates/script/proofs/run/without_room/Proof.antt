@@ -1,0 +1,22 @@
+-- `without_room`: the answer of `stopped`, and the record as it was.
+use mathlib.Core.Path.{ap}
+use Rattle.script.specs.LineRun.{ranWith}
+use Rattle.kernel.specs.StepRecord.{stays}
+use borrow.Author.Needs.{needs}
+use Rattle.script.proofs.run.without_room.Statement.{statement}
+use Rattle.script.proofs.run.without_room.Tie as tie
+use Rattle.script.proofs.run.without_room.Reads as reads
+use Rattle.script.proofs.run.without_room.Lts as lts
+use Rattle.script.proofs.run.stopped.Reads as stopped-reads
+
+-- src/run.rt:92:9
+stopped-requires : tie.Need-stopped-requires
+stopped-requires c κs = search needs
+
+-- src/run.rt:89:1
+returns : tie.Need-returns
+unfolding stays
+returns c = ap (λ o. ranWith o 0) (c .before .stopped .ensures)
+
+pub without-room-spec : {M : Type 1} → statement M
+without-room-spec = tie.close (tie.spec stopped-requires returns)

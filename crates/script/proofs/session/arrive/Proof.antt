@@ -1,0 +1,127 @@
+-- `arrive`: what is left to do of the piece, from what stands now, comes to what the whole piece comes to.
+use borrow.Author.Needs.{needs}
+use mathlib.Core.Path.{_≡_, refl, ap, sym, _∙_}
+use Prim.Native.Nat.{_+_, _-_, _≤_, _<_}
+use native.Mathlib.Omega.{arith}
+use mathlib.Core.List.{_++_}
+use lib.ListN.{length, take, drop}
+use borrow.Rule.Slice.PartMut.{same-len-mid}
+use Rattle.text.specs.Feed.{fed, carryAfter, eventsOf}
+use Rattle.script.specs.Session.{foundMemory, turned, Stand, movedTo, Through, through, pieceRun}
+use Rattle.script.specs.SessionLaws.{rest-part, rest-back, turn-on, turn-short, turn-again, through-end}
+use Rattle.script.proofs.session.arrive.Statement.{statement}
+use Rattle.script.proofs.session.arrive.Tie as tie
+use Rattle.script.proofs.session.arrive.Reads as reads
+use Rattle.script.proofs.session.arrive.Lts as lts
+use Rattle.script.proofs.session.next_line.Reads as next-line-reads
+
+abbrev Inv-loop : tie.InvT-loop
+Inv-loop carry₀ bytes log₀ s₀ stage₀ held₀ at₀ written₀ carry log s stage held at written =
+    (written ≤ length log) × (length log ≡ length log₀) × (length carry ≡ length carry₀)
+    × (through bytes at (record { state = s; stage = stage; memory = log; written = written }) carry held
+    ≡ through bytes 0 (record { state = s₀; stage = stage₀; memory = log₀; written = 0 }) carry₀ held₀)
+
+abbrev μ-loop : tie.MeasureT-loop
+μ-loop carry₀ bytes log₀ s₀ stage₀ held₀ at₀ written₀ carry log s stage held at written = length bytes - at
+
+-- src/session.rt:131:5
+loop-holds : tie.Need-loop-holds Inv-loop μ-loop
+loop-holds c = (search needs, refl, refl, refl)
+
+-- src/session.rt:132:61
+sub-next-line : tie.Need-sub-next-line Inv-loop μ-loop
+sub-next-line c = search needs
+
+-- src/session.rt:132:61
+part-next-line-start : tie.Need-part-next-line-start Inv-loop μ-loop
+part-next-line-start c = search needs
+
+-- src/session.rt:132:61
+part-next-line-end : tie.Need-part-next-line-end Inv-loop μ-loop
+part-next-line-end c = search needs
+
+-- src/session.rt:132:13
+next-line-requires : tie.Need-next-line-requires Inv-loop μ-loop
+next-line-requires c κs = search needs
+
+-- after a turn of the loop
+abbrev Turned : Type 0
+Turned = lts.After-struct-known (next-line-reads.Asked, next-line-reads.Learnt) reads.Pre reads.Post Inv-loop μ-loop
+
+abbrev before-turn : Turned → Stand
+before-turn c = let l = c .before .before .before .before .before .before .before .before .before .before .loop in record { state = l .s; stage = l .stage; memory = l .log; written = l .written }
+
+-- what `next_line` answered, of the memory behind what is written
+turn-is : (c : Turned) → (let l = c .before .before .before .before .before .before .before .before .before .before .loop in let bytes = c .before .before .before .before .before .before .before .before .before .before .before .before .before .before .before .args .bytes .now in
+    c .before .before .before .before .before .before .next-line .result ≡ turned (l .s) (l .stage) (fed (l .carry) (l .held) bytes (l .at)) (carryAfter (l .carry) (l .held) bytes (l .at)) bytes (drop (l .written) (l .log)))
+turn-is c =
+    let l = c .before .before .before .before .before .before .before .before .before .before .loop in
+    let bytes = c .before .before .before .before .before .before .before .before .before .before .before .before .before .before .before .args .bytes .now in
+    c .before .before .before .before .before .before .next-line .ensures .0
+    ∙ ap (turned (l .s) (l .stage) (fed (l .carry) (l .held) bytes (l .at)) (carryAfter (l .carry) (l .held) bytes (l .at)) bytes) (rest-part (l .log) (l .written))
+
+-- src/session.rt:137:19
+add-written : tie.Need-add-written Inv-loop μ-loop
+add-written c =
+    let l = c .before .before .before .before .before .before .before .before .before .before .loop in
+    let short = turn-short (c .before .before .before .before .before .before .before .before .before .before .before .before .before .before .before .args .bytes .now) (l .at) (before-turn c) (l .carry) (l .held) (c .before .before .before .before .before .before .before .before .before .loop-test .taken) (c .before .before .before .before .before .before .next-line .result) (turn-is c) (l .inv .0) in
+    omega (arith, short, l .inv .1, c .before .before .before .before .before .before .before .before .before .before .before .before .before .before .before .good .1 .1 .1 .0 .0)
+
+-- src/session.rt:131:5
+loop-less : tie.Need-loop-less Inv-loop μ-loop
+loop-less c =
+    let l = c .before .before .before .before .before .before .before .before .before .before .loop in
+    omega (arith, turn-on (c .before .before .before .before .before .before .before .before .before .before .before .before .before .before .before .args .bytes .now) (l .at) (before-turn c) (l .carry) (l .held) (c .before .before .before .before .before .before .before .before .before .loop-test .taken) (c .before .before .before .before .before .before .next-line .result) (turn-is c), c .before .before .before .before .before .before .before .before .before .loop-test .taken)
+
+-- src/session.rt:131:5
+loop-again : tie.Need-loop-again Inv-loop μ-loop
+loop-again c =
+    let l = c .before .before .before .before .before .before .before .before .before .before .loop in
+    let bytes = c .before .before .before .before .before .before .before .before .before .before .before .before .before .before .before .args .bytes .now in
+    let n = c .before .before .before .before .before .before .next-line in
+    let more = c .before .before .before .before .before .before .before .before .before .loop-test .taken in
+    let short = turn-short bytes (l .at) (before-turn c) (l .carry) (l .held) more (n .result) (turn-is c) (l .inv .0) in
+    let size = same-len-mid (l .written) (length (l .log) - l .written) (l .log) (n .last .1 .1 .1 .1 .1 .1 .0) (n .kept .1 .1 .1 .1 .1 .1 .0) in (
+      omega (arith, short, size),
+      size ∙ l .inv .1,
+      n .kept .1 .1 .1 .0 ∙ l .inv .2,
+      turn-again bytes (l .at) (before-turn c) (l .carry) (l .held) more (n .result) (turn-is c) _ (n .ensures .1 .0) _
+          (rest-back (l .log) (l .written) (n .last .1 .1 .1 .1 .1 .1 .0)
+          ∙ ap (λ m. take (l .written) (l .log) ++ m) (n .ensures .1 .1 ∙ ap (foundMemory (l .s) (l .stage) (eventsOf (carryAfter (l .carry) (l .held) bytes (l .at)) bytes (fed (l .carry) (l .held) bytes (l .at) .found))) (rest-part (l .log) (l .written))))
+          ∙ l .inv .3,
+    )
+
+-- src/session.rt:121:1
+same-length : tie.Need-same-length Inv-loop μ-loop
+same-length c = search needs
+
+-- src/session.rt:121:1
+same-length-2 : tie.Need-same-length-2 Inv-loop μ-loop
+same-length-2 c = search needs
+
+-- src/session.rt:121:1
+returns : tie.Need-returns Inv-loop μ-loop
+unfolding pieceRun
+returns c =
+    let l = c .before .loop in
+    let a = c .before .before .before .before .before .before .args in
+    let e = sym (through-end (a .bytes .now) (l .at) (record { state = l .s; stage = l .stage; memory = l .log; written = l .written }) (l .carry) (l .held) (c .loop-test .left)) ∙ l .inv .3 in
+    (ap movedTo e, (ap (λ (t : Through). t .carry) e, ap (λ (t : Through). t .stand .memory) e))
+
+pub arrive-spec : {M : Type 1} → statement M
+arrive-spec =
+    tie.close
+    (tie.spec
+    Inv-loop
+    μ-loop
+    loop-holds
+    sub-next-line
+    part-next-line-start
+    part-next-line-end
+    next-line-requires
+    add-written
+    loop-less
+    loop-again
+    same-length
+    same-length-2
+    returns)

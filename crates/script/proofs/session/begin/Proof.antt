@@ -1,0 +1,21 @@
+-- `begin`: the fresh record.
+use mathlib.Core.Path.{_≡_, ap}
+use Rattle.script.specs.Session.{freshSession}
+use borrow.Author.Needs.{needs}
+use Rattle.script.proofs.session.begin.Statement.{statement}
+use Rattle.script.proofs.session.begin.Tie as tie
+use Rattle.script.proofs.session.begin.Reads as reads
+use Rattle.script.proofs.session.begin.Lts as lts
+use Rattle.kernel.proofs.fresh.Reads as fresh-reads
+
+-- src/session.rt:112:9
+fresh-requires : tie.Need-fresh-requires
+fresh-requires c κs = search needs
+
+-- src/session.rt:109:1
+returns : tie.Need-returns
+unfolding freshSession
+returns c = λ i. record { state = c .fresh .ensures i; stage = 0; held = 0 }
+
+pub begin-spec : {M : Type 1} → statement M
+begin-spec = tie.close (tie.spec fresh-requires returns)

@@ -1,0 +1,116 @@
+-- `take_found`: by what was found.
+use mathlib.Core.Path.{_≡_, refl, ap, sym, _∙_}
+use Rattle.script.specs.Session.{taken, takenMemory, foundTaken, foundMemory}
+use Rattle.script.specs.SessionLaws.{nothingb, line-taken, line-memory}
+use borrow.Author.Needs.{needs}
+use Rattle.script.proofs.session.take_found.Statement.{statement}
+use Rattle.script.proofs.session.take_found.Tie as tie
+use Rattle.script.proofs.session.take_found.Reads as reads
+use Rattle.script.proofs.session.take_found.Lts as lts
+use Rattle.script.proofs.session.take.Reads as take-reads
+use Rattle.text.proofs.arrive.line.Reads as line-reads
+
+-- src/session.rt:76:9
+line-requires : tie.Need-line-requires
+line-requires c κs = search needs
+
+-- src/session.rt:78:66
+enum-told : tie.Need-enum-told
+enum-told c = search needs
+
+-- src/session.rt:78:45
+take-requires : tie.Need-take-requires
+take-requires c κs = search needs
+
+-- src/session.rt:79:51
+enum-told-2 : tie.Need-enum-told-2
+enum-told-2 c = search needs
+
+-- src/session.rt:79:30
+take-requires-2 : tie.Need-take-requires-2
+take-requires-2 c κs = search needs
+
+-- src/session.rt:80:45
+enum-told-3 : tie.Need-enum-told-3
+enum-told-3 c = search needs
+
+-- src/session.rt:80:24
+take-requires-3 : tie.Need-take-requires-3
+take-requires-3 c κs = search needs
+
+-- src/session.rt:81:27
+enum-told-4 : tie.Need-enum-told-4
+enum-told-4 c = search needs
+
+-- src/session.rt:72:1
+same-length : tie.Need-same-length
+same-length c = search needs
+
+-- src/session.rt:72:1
+returns : tie.Need-returns
+unfolding nothingb
+returns c =
+    let t = c .before .before .take in
+    let l = c .before .before .before .before .before .before .line .ensures in
+    let a = c .before .before .before .before .before .before .before .before .before .before .args in
+    let e = ap nothingb (c .before .before .before .before .enum-told .given .1) in (
+      t .ensures .0 ∙ ap (λ l. taken (a .s) (a .stage) l (a .log .now)) l ∙ line-taken (a .s) (a .stage) (a .carry .now) (a .bytes .now) (a .log .now) (a .found) e,
+      t .ensures .1 ∙ ap (λ l. takenMemory (a .s) (a .stage) l (a .log .now)) l ∙ line-memory (a .s) (a .stage) (a .carry .now) (a .bytes .now) (a .log .now) (a .found) e,
+    )
+
+-- src/session.rt:72:1
+same-length-2 : tie.Need-same-length-2
+same-length-2 c = search needs
+
+-- src/session.rt:72:1
+returns-2 : tie.Need-returns-2
+unfolding nothingb
+returns-2 c =
+    let t = c .before .before .take2 in
+    let l = c .before .before .before .before .before .before .line .ensures in
+    let a = c .before .before .before .before .before .before .before .before .before .before .args in
+    let e = ap nothingb (c .before .before .before .before .enum-told2 .given .1) in (
+      t .ensures .0 ∙ ap (λ l. taken (a .s) (a .stage) l (a .log .now)) l ∙ line-taken (a .s) (a .stage) (a .carry .now) (a .bytes .now) (a .log .now) (a .found) e,
+      t .ensures .1 ∙ ap (λ l. takenMemory (a .s) (a .stage) l (a .log .now)) l ∙ line-memory (a .s) (a .stage) (a .carry .now) (a .bytes .now) (a .log .now) (a .found) e,
+    )
+
+-- src/session.rt:72:1
+same-length-3 : tie.Need-same-length-3
+same-length-3 c = search needs
+
+-- src/session.rt:72:1
+returns-3 : tie.Need-returns-3
+unfolding nothingb
+returns-3 c =
+    let t = c .before .before .take3 in
+    let l = c .before .before .before .before .before .before .line .ensures in
+    let a = c .before .before .before .before .before .before .before .before .before .before .args in
+    let e = ap nothingb (c .before .before .before .before .enum-told3 .given .1) in (
+      t .ensures .0 ∙ ap (λ l. taken (a .s) (a .stage) l (a .log .now)) l ∙ line-taken (a .s) (a .stage) (a .carry .now) (a .bytes .now) (a .log .now) (a .found) e,
+      t .ensures .1 ∙ ap (λ l. takenMemory (a .s) (a .stage) l (a .log .now)) l ∙ line-memory (a .s) (a .stage) (a .carry .now) (a .bytes .now) (a .log .now) (a .found) e,
+    )
+
+-- src/session.rt:72:1
+returns-4 : tie.Need-returns-4
+unfolding foundTaken foundMemory
+returns-4 c = rw (c .enum-told4 .given .1) (refl, refl)
+
+pub take-found-spec : {M : Type 1} → statement M
+take-found-spec =
+    tie.close
+    (tie.spec
+    line-requires
+    enum-told
+    take-requires
+    enum-told-2
+    take-requires-2
+    enum-told-3
+    take-requires-3
+    enum-told-4
+    same-length
+    returns
+    same-length-2
+    returns-2
+    same-length-3
+    returns-3
+    returns-4)

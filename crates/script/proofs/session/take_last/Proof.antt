@@ -1,0 +1,77 @@
+-- `take_last`: by what was left, and by where the script stands.
+use mathlib.Core.Path.{_≡_, refl, ap, sym, _∙_}
+use mathlib.Core.List.{[]}
+use Rattle.text.specs.Feed.{eventsOf}
+use Rattle.script.specs.Session.{foundTaken, foundMemory, lineIn}
+use Rattle.script.specs.SessionLaws.{left-none, left-over, left-line}
+use borrow.Author.Needs.{needs}
+use Rattle.script.proofs.session.take_last.Statement.{statement}
+use Rattle.script.proofs.session.take_last.Tie as tie
+use Rattle.script.proofs.session.take_last.Reads as reads
+use Rattle.script.proofs.session.take_last.Lts as lts
+use Rattle.script.proofs.session.take.Reads as take-reads
+use Rattle.script.proofs.session.take_found.Reads as take-found-reads
+use Rattle.text.proofs.arrive.finish.Reads as finish-reads
+
+-- src/session.rt:154:9
+slice-aggregate-none : tie.Need-slice-aggregate-none
+slice-aggregate-none c = search needs
+
+-- src/session.rt:157:13
+take-requires : tie.Need-take-requires
+take-requires c κs = search needs
+
+-- src/session.rt:157:13
+same-length : tie.Need-same-length
+same-length c = search needs
+
+-- src/session.rt:157:13
+returns : tie.Need-returns
+unfolding foundTaken foundMemory lineIn
+returns c =
+    let a = c .before .before .before .before .before .before .before .before .before .args in
+    rw (left-none (a .stage) (a .carry .now) (a .held) (c .before .before .before .before .before .if1 .taken) (c .before .before .before .before .if2 .taken)) (c .before .before .take .ensures)
+
+-- src/session.rt:159:9
+returns-2 : tie.Need-returns-2
+unfolding foundTaken foundMemory
+returns-2 c =
+    let a = c .before .before .before .before .before .args in
+    rw (left-over (a .stage) (a .carry .now) (a .held) (c .before .if1 .taken) (c .if2 .left)) (refl, refl)
+
+-- src/session.rt:165:9
+finish-requires : tie.Need-finish-requires
+finish-requires c κs = search needs
+
+-- src/session.rt:166:5
+take-found-requires : tie.Need-take-found-requires
+take-found-requires c κs = search needs
+
+-- src/session.rt:150:1
+same-length-2 : tie.Need-same-length-2
+same-length-2 c = search needs
+
+-- src/session.rt:150:1
+returns-3 : tie.Need-returns-3
+returns-3 c =
+    let a = c .before .before .before .before .before .before .before .before .before .args in
+    let f = c .before .before .before .before .finish .ensures in
+    let t = c .before .before .take-found in
+    rw (left-line (a .stage) (a .carry .now) (a .held) (c .before .before .before .before .before .if1 .left)) (
+      t .ensures .0 ∙ ap (λ g. foundTaken (a .s) (a .stage) (eventsOf (a .carry .now) [] g) (a .log .now)) f,
+      t .ensures .1 ∙ ap (λ g. foundMemory (a .s) (a .stage) (eventsOf (a .carry .now) [] g) (a .log .now)) f,
+    )
+
+pub take-last-spec : {M : Type 1} → statement M
+take-last-spec =
+    tie.close
+    (tie.spec
+    slice-aggregate-none
+    take-requires
+    same-length
+    returns
+    returns-2
+    finish-requires
+    take-found-requires
+    same-length-2
+    returns-3)

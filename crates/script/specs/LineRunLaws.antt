@@ -1,0 +1,136 @@
+-- Laws of one line run: a line that is a step is a call of demand 3's list, and a malformed one changes nothing.
+use mathlib.Core.Path.{_≡_, refl, ap, sym, _∙_}
+use mathlib.Core.List.{List, [], _∷_, _++_}
+use mathlib.Core.Bool.{Bool, true, false, cond}
+use mathlib.Core.Logic.{inl, inr}
+use mathlib.Core.Option.{Option, none, some}
+use Prim.Native.Nat.{ℕ, _+_, _≤_, _<_}
+use native.Mathlib.Omega.{arith}
+use lib.Dec.{leb}
+use lib.ListN.{length, length-append}
+use borrow.Author.Tests.{le-leb}
+use Rattle.lists.specs.TestLaws.{which}
+use Rattle.text.specs.Decimal.{decimal}
+use Rattle.text.specs.DecimalLaws.{decimal-length}
+use Rattle.text.specs.Place.{room, putAnswer}
+use Rattle.text.specs.declared.place.Put.the-variants.{Next, Full}
+use Rattle.rules.specs.Step.{Step}
+use Rattle.rules.specs.Log.{tab, lf, runField, logLine, Call}
+use Rattle.walks.specs.Walk.{taskAt}
+use Rattle.kernel.specs.StepRecord.{stays, stepOf}
+use Rattle.kernel.specs.DemandRecord.{requestFor, readOut, standingIn, inMemory, callRecord}
+use Rattle.kernel.specs.declared.State.{State}
+use Rattle.kernel.specs.declared.Out.{Out}
+use Rattle.kernel.specs.declared.Request.{Request}
+use Rattle.script.specs.Form.{sameBytes, stepOn}
+use Rattle.script.specs.LogLine.{lineBytes, headerBytes, logBytes, badBytes}
+use Rattle.script.specs.Reading.{readingFor}
+use Rattle.script.specs.declared.read.Reading.{Reading}
+use Rattle.script.specs.declared.read.Reading.the-variants.{Made, Malformed}
+use Rattle.script.specs.LineRun.{awaiting, running, over, answered, lineFor, ranWith, reported, ranLine, headLog, headStage, headed}
+use Rattle.script.specs.Pieces.{lineRoom}
+use Rattle.script.specs.declared.run.Ran.{Ran}
+
+-- the line that reports an answer is the rules' log line of it
+pub line-ruled : (o : Out) → lineFor (o .answer) ≡ logLine (readOut o)
+unfolding lineBytes logLine readOut
+line-ruled o = refl
+
+abbrev outOf : Ran → Out
+outOf r = record { state = r .state; answer = r .answer }
+
+either : (b : Bool) (o p : Out) (n m : ℕ) → outOf (cond b (ranWith o n) (ranWith p m)) ≡ cond b o p
+either true o p n m = refl
+either false o p n m = refl
+
+-- by what was read: a step's request, or nothing of the form
+pub read-made : (k : State) (o : Option Step) (x : Request) → readingFor o ≡ Made x → answered k o ≡ stepOf k x
+unfolding readingFor answered
+read-made k none x e = absurd (let z : _≡_ {A = ℕ} 0 1 = cc in omega arith)
+read-made k (some y) x e = ap (stepOf k) (cc)
+
+pub read-none : (k : State) (o : Option Step) → readingFor o ≡ Malformed → answered k o ≡ stays k 14 0 (standingIn k)
+unfolding readingFor answered
+read-none k none e = refl
+read-none k (some y) e = absurd (let z : _≡_ {A = ℕ} 0 1 = cc in omega arith)
+
+from-front : (l : List ℕ) → 0 + length l ≡ length l
+from-front l = omega arith
+
+module _ (k : State) (line memory : List ℕ) where
+  -- a line that is a step: the call of demand 3's list, with a log line in memory of that length
+  pub step-call : (x : Step) → stepOn line ≡ some x → outOf (ranLine k line memory) ≡ callRecord k (record { made = x; room = some (length memory) })
+  unfolding ranLine answered reported callRecord inMemory
+  step-call x is = rw is (either (room memory 0 (lineFor ((stepOf k (requestFor x)) .answer))) (stepOf k (requestFor x)) (stays k 8 0 (standingIn k)) _ _
+      ∙ ap (λ l. cond (room memory 0 l) (stepOf k (requestFor x)) (stays k 8 0 (standingIn k))) (line-ruled (stepOf k (requestFor x)))
+      ∙ ap (λ n. cond (leb n (length memory)) (stepOf k (requestFor x)) (stays k 8 0 (standingIn k))) (from-front (logLine (readOut (stepOf k (requestFor x))))))
+
+  -- a malformed line changes nothing
+  pub malformed-stays : stepOn line ≡ none → (ranLine k line memory) .state ≡ k
+  unfolding ranLine answered reported stays
+  malformed-stays is = rw is (ap (λ o. o .state) (either (room memory 0 (lineFor ((stays k 14 0 (standingIn k)) .answer))) (stays k 14 0 (standingIn k)) (stays k 8 0 (standingIn k)) _ _)
+      ∙ same (room memory 0 (lineFor ((stays k 14 0 (standingIn k)) .answer))))
+    where
+      same : (b : Bool) → (cond b (stays k 14 0 (standingIn k)) (stays k 8 0 (standingIn k))) .state ≡ k
+      same true = refl
+      same false = refl
+
+-- by what became of the log line: it was written, or it had no room
+module _ (k : State) (o : Out) (memory : List ℕ) where
+  pub reported-next : (n : ℕ) → putAnswer memory 0 (lineFor (o .answer)) ≡ Next n → reported k o memory ≡ ranWith o n
+  unfolding putAnswer reported
+  reported-next n e = elim (which (room memory 0 (lineFor (o .answer)))) [
+    | inl r ↦ let z : Next (0 + length (lineFor (o .answer))) ≡ Next n = rw r at e in rw r (ap (ranWith o) (let y : 0 + length (lineFor (o .answer)) ≡ n = cc in omega (arith, y)))
+    | inr r ↦ let z : Full ≡ Next n = rw r at e in absurd (let y : _≡_ {A = ℕ} 0 1 = cc in omega arith)
+  ]
+
+  pub reported-full : putAnswer memory 0 (lineFor (o .answer)) ≡ Full → reported k o memory ≡ ranWith (stays k 8 0 (standingIn k)) 0
+  unfolding putAnswer reported
+  reported-full e = elim (which (room memory 0 (lineFor (o .answer)))) [
+    | inl r ↦ let z : Next (0 + length (lineFor (o .answer))) ≡ Full = rw r at e in absurd (let y : _≡_ {A = ℕ} 0 1 = cc in omega arith)
+    | inr r ↦ rw r
+  ]
+
+pub head-good : (line : List ℕ) → sameBytes line headerBytes ≡ true → (headLog line ≡ logBytes) × (headStage line ≡ running)
+unfolding headLog headStage
+head-good line e = (rw e, rw e)
+
+pub head-bad : (line : List ℕ) → sameBytes line headerBytes ≡ false → (headLog line ≡ badBytes) × (headStage line ≡ over)
+unfolding headLog headStage
+head-bad line e = (rw e, rw e)
+
+module _ (line memory : List ℕ) where
+  pub headed-next : (n : ℕ) → putAnswer memory 0 (headLog line) ≡ Next n → headed line memory ≡ record { stage = headStage line; written = n }
+  unfolding putAnswer headed
+  headed-next n e = elim (which (room memory 0 (headLog line))) [
+    | inl r ↦
+        let z : Next (0 + length (headLog line)) ≡ Next n = rw r at e in
+        let y : length (headLog line) ≡ n = (let w : 0 + length (headLog line) ≡ n = cc in omega (arith, w)) in
+        rw r (λ i. record { stage = headStage line; written = y i })
+    | inr r ↦ let z : Full ≡ Next n = rw r at e in absurd (let y : _≡_ {A = ℕ} 0 1 = cc in omega arith)
+  ]
+
+  pub headed-full : putAnswer memory 0 (headLog line) ≡ Full → headed line memory ≡ record { stage = awaiting; written = 0 }
+  unfolding putAnswer headed
+  headed-full e = elim (which (room memory 0 (headLog line))) [
+    | inl r ↦ let z : Next (0 + length (headLog line)) ≡ Full = rw r at e in absurd (let y : _≡_ {A = ℕ} 0 1 = cc in omega arith)
+    | inr r ↦ rw r
+  ]
+
+run-length : (r : Option ℕ) → length (runField r) ≤ 10
+unfolding runField
+run-length none = omega arith
+run-length (some i) = decimal-length i .1
+
+pub line-room : (number value run : ℕ) → length (lineBytes number value run) ≤ lineRoom
+unfolding lineBytes
+line-room number value run =
+    omega (
+      arith,
+      decimal-length number .1,
+      decimal-length value .1,
+      run-length (taskAt run),
+      length-append (decimal number) (tab ∷ (decimal value ++ (tab ∷ (runField (taskAt run) ++ (lf ∷ []))))),
+      length-append (decimal value) (tab ∷ (runField (taskAt run) ++ (lf ∷ []))),
+      length-append (runField (taskAt run)) (lf ∷ []),
+    )

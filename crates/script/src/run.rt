@@ -1,0 +1,160 @@
+// One line of a script run on a record, with lent memory for its log line.
+ghost use mathlib.Core.Path.{_≡_};
+ghost use Rattle.queues.specs.Queue.{idOf};
+ghost use Rattle.text.specs.Place.{putAnswer, putBytes};
+ghost use Rattle.kernel.specs.StepRecord.{stays};
+ghost use Rattle.kernel.specs.DemandRecord.{standingIn};
+ghost use Rattle.script.specs.Form.{stepOn};
+ghost use Rattle.script.specs.LineRun.{answered, lineFor, ranWith, ranLine, memoryLine, headed, memoryHead};
+use crate::log;
+use crate::read;
+use crate::read::Reading;
+use kernel::Answer;
+use kernel::MAX_TASKS;
+use kernel::NONE;
+use kernel::Out;
+use kernel::State;
+use text::place::Put;
+
+// Where a script stands: its first line is awaited; steps are run; its first line was bad and nothing more is written.
+pub const AWAITING: u8 = 0;
+
+pub const RUNNING: u8 = 1;
+
+pub const OVER: u8 = 2;
+
+// What a line came to: the record handed on, the answer, and how many bytes of the lent memory its log line took.
+pub struct Ran {
+    pub state: State,
+    pub answer: Answer,
+    pub written: usize,
+}
+
+// What the first line came to: where the script then stands, and how many bytes its log line took.
+pub struct Headed {
+    pub stage: u8,
+    pub written: usize,
+}
+
+// The task to run as it stands; none where the record isn't sound.
+fn standing(s: State) -> u8
+    ensures { λ r. ⌜ r ≡ idOf (standingIn s) ⌝ }
+{
+    if kernel::is_sound(s) {
+        if s.running < MAX_TASKS {
+            return s.running;
+        }
+        return NONE;
+    }
+    NONE
+}
+
+// A refusal for the line itself, 14 or the log's 8: the record stays.
+fn stopped(s: State, number: u8) -> Out
+    ensures { λ r. ⌜ r ≡ stays s number 0 (standingIn s) ⌝ }
+{
+    let a = Answer::Refused {
+        number: number,
+        value: 0,
+        run: standing(s),
+    };
+    Out {
+        state: s,
+        answer: a,
+    }
+}
+
+// The line's step made, or 14.
+fn answer_line(s: State, line: &[u8]) -> Out
+    ensures { λ r. ⌜ r ≡ answered s (stepOn (now (line .entry))) ⌝ }
+{
+    let reading = read::read_line(line);
+    let Reading::Made(request) = reading else {
+        return stopped(s, 14);
+    };
+    kernel::step(s, request)
+}
+
+// An answer's line: its number, its value and the task to run.
+fn write_answer(log: &mut [u8], a: Answer) -> Put
+    ensures answer { λ r. ⌜ r ≡ putAnswer (now (log .entry)) 0 (lineFor a) ⌝ }
+    ensures memory { λ r. ⌜ now (log .exit) ≡ putBytes (now (log .entry)) 0 (lineFor a) ⌝ }
+{
+    match a {
+        Answer::Accepted { number, value, run } => log::write_line(log, number, value, run),
+        Answer::Refused { number, value, run } => log::write_line(log, number, value, run),
+    }
+}
+
+// The log's 8: its line has no room, and the step isn't made.
+fn without_room(s: State) -> Ran
+    ensures { λ r. ⌜ r ≡ ranWith (stays s 8 0 (standingIn s)) 0 ⌝ }
+{
+    let o = stopped(s, 8);
+    let a = o.answer;
+    let same = o.state;
+    Ran {
+        state: same,
+        answer: a,
+        written: 0,
+    }
+}
+
+// One line: its step made, and reported by a log line at the front of the lent memory.
+pub fn run_line(s: State, line: &[u8], log: &mut [u8]) -> Ran
+    ensures answer { λ r. ⌜ r ≡ ranLine s (now (line .entry)) (now (log .entry)) ⌝ }
+    ensures memory { λ r. ⌜ now (log .exit) ≡ memoryLine s (now (line .entry)) (now (log .entry)) ⌝ }
+{
+    let o = answer_line(s, line);
+    let a = o.answer;
+    let next = o.state;
+    let Answer::Accepted { number, value, run } = a else {
+        // refused: only logged, and the record is still the one handed in
+        return match write_answer(log, a) {
+            Put::Next(n) => Ran {
+                state: next,
+                answer: a,
+                written: n,
+            },
+            Put::Full => without_room(s),
+        };
+    };
+    // accepted: goes on
+    match log::write_line(log, number, value, run) {
+        Put::Next(n) => Ran {
+            state: next,
+            answer: a,
+            written: n,
+        },
+        Put::Full => without_room(s),
+    }
+}
+
+// The script's first line: the log's first line, or `bad`, at the front of the lent memory.
+pub fn run_header(line: &[u8], log: &mut [u8]) -> Headed
+    ensures answer { λ r. ⌜ r ≡ headed (now (line .entry)) (now (log .entry)) ⌝ }
+    ensures memory { λ r. ⌜ now (log .exit) ≡ memoryHead (now (line .entry)) (now (log .entry)) ⌝ }
+{
+    if read::same(line, b"kernel\t1") {
+        let Put::Next(n) = log::write_header(log) else {
+            return Headed {
+                stage: AWAITING,
+                written: 0,
+            };
+        };
+        return Headed {
+            stage: RUNNING,
+            written: n,
+        };
+    }
+    let Put::Next(n) = log::write_bad(log) else {
+        return Headed {
+            stage: AWAITING,
+            written: 0,
+        };
+    };
+    Headed {
+        stage: OVER,
+        written: n,
+    }
+}

@@ -1,0 +1,201 @@
+// A script whose bytes arrive in any pieces, run line by line.
+ghost use mathlib.Core.Path.{_≡_};
+ghost use Rattle.text.specs.Feed.{fed, carryAfter, eventsOf};
+ghost use Rattle.script.specs.Session.{freshSession, taken, takenMemory, foundTaken, foundMemory, turned, pieceRun, movedTo, leftEvents, endRun, endTo};
+use crate::run;
+use crate::run::AWAITING;
+use crate::run::RUNNING;
+use kernel::State;
+use text::arrive;
+use text::arrive::Found;
+
+// What a script has come to: the record, where it stands, and how many bytes of a line the carry holds.
+pub struct Session {
+    pub state: State,
+    pub stage: u8,
+    pub held: usize,
+}
+
+// What a piece of the script came to: the session then, and how many bytes of log were written.
+pub struct Moved {
+    pub session: Session,
+    pub written: usize,
+}
+
+// What one line came to: the record, where the script stands, and how many bytes of log were written.
+pub struct Taken {
+    pub state: State,
+    pub stage: u8,
+    pub written: usize,
+}
+
+// What the bytes up to a line's end came to: as for a line, and how many bytes the carry holds and where the next line begins.
+pub struct Turn {
+    pub state: State,
+    pub stage: u8,
+    pub held: usize,
+    pub next: usize,
+    pub written: usize,
+}
+
+// The first line, a step, or a line after a bad first line, which is passed over.
+fn take(s: State, stage: u8, line: &[u8], log: &mut [u8]) -> Taken
+    ensures answer { λ r. ⌜ r ≡ taken s stage (now (line .entry)) (now (log .entry)) ⌝ }
+    ensures memory { λ r. ⌜ now (log .exit) ≡ takenMemory s stage (now (line .entry)) (now (log .entry)) ⌝ }
+{
+    if stage == RUNNING {
+        let r = run::run_line(s, line, log);
+        let next = r.state;
+        return Taken {
+            state: next,
+            stage: stage,
+            written: r.written,
+        };
+    }
+    if stage == AWAITING {
+        let h = run::run_header(line, log);
+        return Taken {
+            state: s,
+            stage: h.stage,
+            written: h.written,
+        };
+    }
+    Taken {
+        state: s,
+        stage: stage,
+        written: 0,
+    }
+}
+
+// The line that was found, if one was.
+fn take_found<'a>(
+    s: State,
+    stage: u8,
+    carry: &'a [u8],
+    bytes: &'a [u8],
+    found: Found,
+    log: &mut [u8],
+) -> Taken
+    ensures answer { λ r. ⌜ r ≡ foundTaken s stage (eventsOf (now (carry .entry)) (now (bytes .entry)) found) (now (log .entry)) ⌝ }
+    ensures memory { λ r. ⌜ now (log .exit) ≡ foundMemory s stage (eventsOf (now (carry .entry)) (now (bytes .entry)) found) (now (log .entry)) ⌝ }
+{
+    let line = arrive::line(carry, bytes, found);
+    match found {
+        Found::Part { start: _, end: _ } => take(s, stage, line, log),
+        Found::Carried(_) => take(s, stage, line, log),
+        Found::Long => take(s, stage, line, log),
+        Found::Nothing => Taken {
+            state: s,
+            stage: stage,
+            written: 0,
+        },
+    }
+}
+
+// The bytes from `at` on up to the next line's end, and the line that ends there.
+fn next_line(
+    s: State,
+    stage: u8,
+    held: usize,
+    carry: &mut [u8],
+    bytes: &[u8],
+    at: usize,
+    log: &mut [u8],
+) -> Turn
+    ensures answer { λ r. ⌜ r ≡ turned s stage (fed (now (carry .entry)) held (now (bytes .entry)) at) (carryAfter (now (carry .entry)) held (now (bytes .entry)) at) (now (bytes .entry)) (now (log .entry)) ⌝ }
+    ensures carried { λ r. ⌜ now (carry .exit) ≡ carryAfter (now (carry .entry)) held (now (bytes .entry)) at ⌝ }
+    ensures memory { λ r. ⌜ now (log .exit) ≡ foundMemory s stage (eventsOf (carryAfter (now (carry .entry)) held (now (bytes .entry)) at) (now (bytes .entry)) (fed (now (carry .entry)) held (now (bytes .entry)) at .found)) (now (log .entry)) ⌝ }
+{
+    let f = arrive::feed(carry, held, bytes, at);
+    let found = f.found;
+    let t = take_found(s, stage, carry, bytes, found, log);
+    let next = t.state;
+    Turn {
+        state: next,
+        stage: t.stage,
+        held: f.held,
+        next: f.next,
+        written: t.written,
+    }
+}
+
+// A script before its first byte.
+pub fn begin() -> Session
+    ensures { λ r. ⌜ r ≡ freshSession ⌝ }
+{
+    let fresh = kernel::fresh();
+    Session {
+        state: fresh,
+        stage: AWAITING,
+        held: 0,
+    }
+}
+
+// A piece of the script, with lent memory for the log lines of the lines that end in it.
+pub fn arrive(session: Session, carry: &mut [u8], bytes: &[u8], log: &mut [u8]) -> Moved
+    ensures answer { λ r. ⌜ r ≡ movedTo (pieceRun session (now (carry .entry)) (now (bytes .entry)) (now (log .entry))) ⌝ }
+    ensures carried { λ r. ⌜ now (carry .exit) ≡ pieceRun session (now (carry .entry)) (now (bytes .entry)) (now (log .entry)) .carry ⌝ }
+    ensures memory { λ r. ⌜ now (log .exit) ≡ pieceRun session (now (carry .entry)) (now (bytes .entry)) (now (log .entry)) .stand .memory ⌝ }
+{
+    let mut s = session.state;
+    let mut stage = session.stage;
+    let mut held = session.held;
+    let mut at = 0;
+    let mut written = 0;
+    while at < bytes.len() {
+        let t = next_line(s, stage, held, carry, bytes, at, &mut log[written..]);
+        s = t.state;
+        stage = t.stage;
+        held = t.held;
+        at = t.next;
+        written = written + t.written;
+    }
+    let then = Session {
+        state: s,
+        stage: stage,
+        held: held,
+    };
+    Moved {
+        session: then,
+        written: written,
+    }
+}
+
+// What is left when nothing more arrives: a last line without LF, or, where not even a first line came, none, as if it were empty.
+fn take_last(s: State, stage: u8, carry: &[u8], held: usize, log: &mut [u8]) -> Taken
+    ensures answer { λ r. ⌜ r ≡ foundTaken s stage (leftEvents stage (now (carry .entry)) held) (now (log .entry)) ⌝ }
+    ensures memory { λ r. ⌜ now (log .exit) ≡ foundMemory s stage (leftEvents stage (now (carry .entry)) held) (now (log .entry)) ⌝ }
+{
+    let none = &carry[..0];
+    if held == 0 {
+        if stage == AWAITING {
+            return take(s, stage, none, log);
+        }
+        return Taken {
+            state: s,
+            stage: stage,
+            written: 0,
+        };
+    }
+    let found = arrive::finish(carry, held);
+    take_found(s, stage, carry, none, found, log)
+}
+
+// The end of the script, with lent memory for one log line.
+pub fn end(session: Session, carry: &[u8], log: &mut [u8]) -> Moved
+    ensures answer { λ r. ⌜ r ≡ endTo (endRun session (now (carry .entry)) (now (log .entry))) ⌝ }
+    ensures memory { λ r. ⌜ now (log .exit) ≡ endRun session (now (carry .entry)) (now (log .entry)) .memory ⌝ }
+{
+    let s = session.state;
+    let t = take_last(s, session.stage, carry, session.held, log);
+    let next = t.state;
+    let then = Session {
+        state: next,
+        stage: t.stage,
+        held: 0,
+    };
+    Moved {
+        session: then,
+        written: t.written,
+    }
+}
