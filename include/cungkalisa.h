@@ -1,4 +1,4 @@
-/* The Cungkalisa scheduler kernel for C and C++: one state record, and steps that change it where it lies.
+/* The Cungkalisa scheduler kernel for C and C++: one state record, and steps that change it where it lies or hand on a new one.
  *
  * The firmware keeps one record, makes it fresh once, and then makes a step for each thing that happens: a task
  * calls the kernel, a tick comes, an interrupt posts. Each step gives back an answer, one number in which three
@@ -175,7 +175,21 @@ enum {
  * step's is answered CUNGKALISA_NO_STEP. */
 uint64_t cungkalisa_step(cungkalisa_state *s, uint32_t code, uint32_t a, uint32_t b);
 
-/* ---- The steps by name ---- */
+/* What a step by value gives: the record after the step, and the answer. It has 304 bytes. */
+typedef struct {
+    cungkalisa_state state;
+    uint64_t answer;
+} cungkalisa_stepped;
+
+/* A compiler that lays it out in another way stops here. */
+typedef char cungkalisa_stepped_is_as_expected[sizeof(cungkalisa_stepped) == 304 ? 1 : -1];
+
+/* The same step on a record handed in by value: the caller's own stays as it is, and the record after the step comes back
+ * beside the answer. For a caller that looks before it steps, or keeps the record before. The bytes that no field has are
+ * anything in what comes back, with a refusal too. */
+cungkalisa_stepped cungkalisa_step_by_value(cungkalisa_state s, uint32_t code, uint32_t a, uint32_t b);
+
+/* ---- The steps by name, on the record where it lies ---- */
 
 /* Set-up: a new task of this priority, 0 to 31. Value: its id. */
 static inline uint64_t cungkalisa_task(cungkalisa_state *s, uint32_t priority)

@@ -56,6 +56,7 @@ static void places(void)
     FIELD(hold, 288, 1);
     FIELD(running, 289, 1);
     expect(sizeof(cungkalisa_state) == 292, "size of the record", 0);
+    expect(offsetof(cungkalisa_stepped, state) == 0 && offsetof(cungkalisa_stepped, answer) == 296, "what a step by value gives", 0);
 }
 
 /* The bytes that no field has. */
@@ -283,6 +284,30 @@ static void refused_bytes(const cungkalisa_state *good)
     }
 }
 
+/* The step by value gives what the step in place does, and leaves the caller's record alone. */
+static void both_ways(const cungkalisa_state *start, const char *what, uint32_t code, uint32_t a, uint32_t b)
+{
+    cungkalisa_state in_place = *start, kept = *start;
+    cungkalisa_stepped after = cungkalisa_step_by_value(kept, code, a, b);
+    expect(after.answer == cungkalisa_step(&in_place, code, a, b), what, (int)code);
+    same(&after.state, &in_place, what, (int)code);
+    same(&kept, start, what, (int)code);
+}
+
+/* Every code, one that is no step's included, with small and great numbers, on a record and on the same damaged. */
+static void by_value(const cungkalisa_state *start, const char *what)
+{
+    static const uint32_t numbers[] = {0, 1, 5, 7, 16, 40, 0x7fffffffu, 0xffffffffu};
+    cungkalisa_state damaged = *start;
+    damaged.started = 2;
+    for (uint32_t code = 0; code < 17; code++)
+        for (int i = 0; i < 8; i++)
+            for (int j = 0; j < 8; j++) {
+                both_ways(start, what, code, numbers[i], numbers[j]);
+                both_ways(&damaged, what, code, numbers[i], numbers[j]);
+            }
+}
+
 int main(int count, char **words)
 {
     static cungkalisa_state s, want;
@@ -294,11 +319,16 @@ int main(int count, char **words)
     cungkalisa_fresh(&s);
     fresh_fields(&want);
     same(&s, &want, "fresh", 0);
+    by_value(&s, "by value, fresh");
     make_all(&s, &want);
+    by_value(&s, "by value, all made");
     start_all(&s, &want);
+    by_value(&s, "by value, started");
     hold_all(&s, &want);
+    by_value(&s, "by value, all mutexes taken");
     wait_all(&s, &want);
     ask_all(&s, &want);
+    by_value(&s, "by value, all waiting");
     damage_all(&s);
     refused_bytes(&s);
     printf("layout: %d checks hold\n", checks);

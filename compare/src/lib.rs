@@ -3,11 +3,12 @@
 use outside::kernel::{Record, Step};
 
 mod linked {
-    use super::Bytes;
+    use super::{Bytes, Stepped};
     extern "C" {
         pub fn cungkalisa_fresh(s: *mut Bytes);
         pub fn cungkalisa_is_sound(s: *const Bytes) -> bool;
         pub fn cungkalisa_step(s: *mut Bytes, code: u32, a: u32, b: u32) -> u64;
+        pub fn cungkalisa_step_by_value(s: Bytes, code: u32, a: u32, b: u32) -> Stepped;
         pub fn cungkalisa_number(answer: u64) -> u8;
         pub fn cungkalisa_run(answer: u64) -> u8;
         pub fn cungkalisa_value(answer: u64) -> u32;
@@ -18,6 +19,13 @@ mod linked {
 #[repr(C, align(4))]
 #[derive(Clone, Copy, PartialEq, Eq)]
 pub struct Bytes(pub [u8; 292]);
+
+/// What a step by value gives: the record after it, and the answer.
+#[repr(C)]
+pub struct Stepped {
+    pub bytes: Bytes,
+    pub answer: u64,
+}
 
 const _: () = assert!(size_of::<Bytes>() == size_of::<Record>());
 const _: () = assert!(align_of::<Bytes>() == align_of::<Record>());
@@ -48,6 +56,11 @@ impl Bytes {
 
     pub fn step(&mut self, call: Call) -> u64 {
         unsafe { linked::cungkalisa_step(self, call.code, call.a, call.b) }
+    }
+
+    /// The step on a copy, handed in and handed back.
+    pub fn stepped(self, call: Call) -> Stepped {
+        unsafe { linked::cungkalisa_step_by_value(self, call.code, call.a, call.b) }
     }
 }
 

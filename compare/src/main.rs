@@ -1,4 +1,4 @@
-//! Random steps on both implementations, each record and each answer compared.
+//! Random steps on both implementations, in place and by value, each record and each answer compared.
 //!
 //!     compare [--steps N] [--seed S] [--layout]
 //!
@@ -132,6 +132,10 @@ fn step_both(bytes: &mut Bytes, call: Call, seen: &mut Seen) -> Result<(), Strin
     }
     if bytes.record() != record {
         return differs(format!("{:?} and {record:?}", bytes.record()));
+    }
+    let after = before.stepped(call);
+    if after.answer != answer || after.bytes.record() != record {
+        return differs(format!("by value {:#x}, {:?}", after.answer, after.bytes.record()));
     }
     if number > 1 && *bytes != before {
         return differs("a refusal changed bytes that no field has".to_string());

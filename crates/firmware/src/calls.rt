@@ -1,12 +1,7 @@
 // A step by its code, on a record by value.
 ghost use mathlib.Core.Path.{_≡_};
-ghost use Rattle.queues.specs.Queue.{idOf};
-ghost use Rattle.kernel.specs.DemandRecord.{standingIn};
-ghost use Rattle.kernel.specs.StepRecord.{stays};
 ghost use Rattle.firmware.specs.Call.{requestOf, callOf};
 use crate::Asked;
-use kernel::Answer;
-use kernel::NONE;
 use kernel::Out;
 use kernel::Request;
 use kernel::State;
@@ -43,38 +38,12 @@ pub fn request_of(code: u32, a: u32, b: u32) -> Asked
     Asked::Step { request: request }
 }
 
-// "The task to run is then the running one as it stands; where the state handed in isn't sound, it is none"
-fn standing(s: State) -> u8
-    ensures { λ r. ⌜ r ≡ idOf (standingIn s) ⌝ }
-{
-    if kernel::is_sound(s) {
-        return s.running;
-    }
-    NONE
-}
-
-// A code that names no step is answered as a line that is none.
-fn unnamed(s: State) -> Out
-    ensures { λ r. ⌜ r ≡ stays s 14 0 (standingIn s) ⌝ }
-{
-    let run = standing(s);
-    let a = Answer::Refused {
-        number: 14,
-        value: 0,
-        run: run,
-    };
-    Out {
-        state: s,
-        answer: a,
-    }
-}
-
-// What is asked for, done.
+// What is asked for, done; a code that names no step is answered as a line that is none.
 pub fn call(s: State, x: Asked) -> Out
     ensures { λ r. ⌜ r ≡ callOf s x ⌝ }
 {
     match x {
         Asked::Step { request } => kernel::step(s, request),
-        Asked::Nothing => unnamed(s),
+        Asked::Nothing => kernel::stopped(s, 14),
     }
 }

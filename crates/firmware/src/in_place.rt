@@ -4,31 +4,8 @@ ghost use Rattle.kernel.specs.SoundRecord.{soundOf};
 ghost use Rattle.kernel.specs.DemandRecord.{freshRecord};
 ghost use Rattle.firmware.specs.Call.{requestOf, callOf};
 ghost use Rattle.firmware.specs.Packed.{Carries};
-use crate::answers;
-use crate::calls;
-use kernel::Out;
+use crate::by_value;
 use kernel::State;
-
-// The step of a code, by value.
-fn made(s: State, code: u32, a: u32, b: u32) -> Out
-    ensures { λ r. ⌜ r ≡ callOf s (requestOf code a b) ⌝ }
-{
-    calls::call(s, calls::request_of(code, a, b))
-}
-
-// What a step gives, taken apart: the record to store, and the answer in one number.
-fn state_of(o: Out) -> State
-    ensures { λ r. ⌜ r ≡ o .state ⌝ }
-{
-    o.state
-}
-
-fn code_of(o: Out) -> u64
-    ensures { λ r. ⌜ Carries r (o .answer) ⌝ }
-{
-    let a = o.answer;
-    answers::answer_code(a)
-}
 
 // The fresh record, whatever stood there.
 #[no_mangle]
@@ -54,8 +31,8 @@ pub extern "C" fn cungkalisa_step(s: &mut State, code: u32, a: u32, b: u32) -> u
     ensures { λ r. ⌜ Carries r (callOf (now (s .entry)) (requestOf code a b) .answer) × (now (s .exit) ≡ callOf (now (s .entry)) (requestOf code a b) .state) ⌝ }
 {
     let t = *s;
-    let o = made(t, code, a, b);
-    let n = state_of(o);
+    let o = by_value::made(t, code, a, b);
+    let n = by_value::state_of(o);
     *s = n;
-    code_of(o)
+    by_value::code_of(o)
 }

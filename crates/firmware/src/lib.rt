@@ -1,5 +1,6 @@
-// The kernel for firmware: one state record, changed where it lies, by functions that C can call.
+// The kernel for firmware: one state record, changed where it lies or handed on, by functions that C can call.
 mod answers;
+mod by_value;
 mod calls;
 mod in_place;
 
@@ -7,6 +8,7 @@ pub use answers::answer_code;
 pub use answers::cungkalisa_number;
 pub use answers::cungkalisa_run;
 pub use answers::cungkalisa_value;
+pub use by_value::cungkalisa_step_by_value;
 pub use calls::call;
 pub use calls::request_of;
 pub use in_place::cungkalisa_fresh;
@@ -17,4 +19,11 @@ pub use in_place::cungkalisa_step;
 pub enum Asked {
     Step { request: kernel::Request },
     Nothing,
+}
+
+// What comes of a step by value: the record after it, and the answer in one number.
+#[repr(C)]
+pub struct Stepped {
+    pub state: kernel::State,
+    pub answer: u64,
 }

@@ -7,7 +7,7 @@ use Prim.Native.Nat.{ℕ, _<_}
 use native.Mathlib.Omega.{arith}
 use lib.Dec.{leb}
 use lib.ListN.{length}
-use Rattle.lists.specs.TestLaws.{by-test}
+use Rattle.lists.specs.TestLaws.{by-test, and-l}
 use Rattle.rules.specs.Step.{Step, task, mutex, sem, start, lock, unlock, pend, post, flush, sleep, yield, hold, free, tick, level, outcome}
 use Rattle.rules.specs.Refusal.{Row, refusals, firstRow}
 use Rattle.rules.specs.Log.{logLine, withRoom, Call, inRoom, call}
@@ -18,12 +18,14 @@ use Rattle.rules.specs.Demand.{events, after}
 use Rattle.rules.specs.RefusalLaws.{call-by, refused-unchanged, sound-stands}
 use Rattle.rules.specs.AgreeLaws.{eventOf}
 use Rattle.rules.specs.DemandLaws.{call-inv, demand-3}
-use Rattle.queues.specs.Queue.{idOf}
+use Rattle.queues.specs.Queue.{noId, idOf}
 use Rattle.walks.specs.Walk.{taskAt}
 use Rattle.kernel.specs.Record.{view, pack}
-use Rattle.kernel.specs.SoundRecord.{soundOf}
+use Rattle.kernel.specs.SoundRecord.{tidyb, soundOf}
 use Rattle.kernel.specs.StepRecord.{stepFor, numberOf, valueOf, runOf, answerFor, outFor, stays, stepOf}
 use Rattle.kernel.specs.GoodRecord.{Typed}
+use Rattle.kernel.specs.ViewLaws.{running-id}
+use Rattle.kernel.specs.PackLaws.{id-back}
 use Rattle.kernel.specs.SoundPackLaws.{view-pack, pack-sound, sound-view, sound-pack}
 use Rattle.kernel.specs.ColumnLaws.{chosen}
 use Rattle.kernel.specs.DemandRecord.{freshRecord, requestFor, readOut, standingIn, inMemory, callRecord, eventsRecord, afterRecord, answerRecord, Demand-3-record}
@@ -84,6 +86,20 @@ read-out : (a : Ruled) → Fair a → readOut (outFor a) ≡ a
 unfolding readOut outFor
 read-out a F = same-ruled _ _ (view-pack (a .state) (F .sound)) (number-back (a .number) (a .value) (a .run)) (value-back (a .number) (a .value) (a .run))
     (ap taskAt (run-back (a .number) (a .value) (a .run)) ∙ ap (λ o. taskAt (idOf o)) (F .runs) ∙ runner-back (a .state) (F .sound) ∙ sym (F .runs))
+
+tidy-of : (k : State) → soundOf k ≡ true → tidyb k ≡ true
+unfolding soundOf
+tidy-of k e = and-l _ _ e
+
+-- the task to run of a refusal: of a sound record the running one as it stands
+pub standing-sound : (k : State) → soundOf k ≡ true → idOf (standingIn k) ≡ k .running
+unfolding standingIn
+standing-sound k e = rw e (id-back (k .running) (running-id k (tidy-of k e)))
+
+-- and of any other none
+pub standing-unsound : (k : State) → soundOf k ≡ false → idOf (standingIn k) ≡ noId
+unfolding standingIn idOf
+standing-unsound k e = rw e refl
 
 module _ (s : Model) (I : Inv s) where
   step-is : (x : Step) → step s x ≡ stepSound s x

@@ -147,7 +147,7 @@ pub same-state : (a b : State) → a .tasks ≡ b .tasks → a .semaphores ≡ b
 same-state a b p1 p2 p3 p4 p5 p6 p7 p8 p9 = λ i. record { tasks = p1 i; semaphores = p2 i; clock = p3 i; mutexes = p4 i; ready = p5 i; waiting = p6 i; started = p7 i; hold = p8 i; running = p9 i }
 
 -- an id is that of its task
-id-back : (x : ℕ) → idb x ≡ true → idOf (taskAt x) ≡ x
+pub id-back : (x : ℕ) → idb x ≡ true → idOf (taskAt x) ≡ x
 unfolding idOf
 id-back x e = elim (or-true _ _ e) [
   | inl f ↦ rw (task-in x (ltb-true x maxTasks f)) refl

@@ -49,7 +49,7 @@ module _ (k : State) (tidy : tidyb k ≡ true) where
   unfolding tidyb queueTidyb
   waiting-fits = leb-true _ _ (and-l _ _ (and-l _ _ (and-r _ _ (and-r _ _ (and-r _ _ (and-r _ _ tidy))))))
 
-  running-id : idb (k .running) ≡ true
+  pub running-id : idb (k .running) ≡ true
   unfolding tidyb
   running-id = and-r _ _ (and-r _ _ (and-r _ _ (and-r _ _ (and-r _ _ (and-r _ _ tidy)))))
 

@@ -1,13 +1,15 @@
-// The public face: a fresh record, the test of a record, and the step.
+// The public face: a fresh record, the test of a record, the step, and a refusal from outside it.
 ghost use mathlib.Core.Path.{_≡_};
 ghost use Prim.Native.Nat.{ℕ, _≤_, _<_};
 ghost use Rattle.kernel.specs.SoundRecord.{soundOf};
 ghost use Rattle.kernel.specs.StepRecord.{stepOf, stays};
-ghost use Rattle.kernel.specs.DemandRecord.{freshRecord};
+ghost use Rattle.queues.specs.Queue.{idOf};
+ghost use Rattle.kernel.specs.DemandRecord.{freshRecord, standingIn};
 ghost use Rattle.kernel.specs.GoodRecord.{Typed};
 ghost use Rattle.kernel.specs.Machine.{countAt, maximumAt};
 ghost use Rattle.kernel.specs.MachineLaws.{machineStep};
 use crate::Answer;
+use crate::MAX_TASKS;
 use crate::MUTEXES;
 use crate::Mutexes;
 use crate::NONE;
@@ -20,6 +22,7 @@ use crate::TASKS;
 use crate::Tasks;
 use crate::sound;
 use crate::steps;
+use crate::waits;
 use queues::Queue;
 
 // "A fresh state is in set-up, with nothing made, clock and hold 0."
@@ -87,12 +90,12 @@ fn perform(s: State, x: Request) -> Out
         Request::Mutex { kind } => steps::mutex(s, kind),
         Request::Sem { count, maximum } => steps::sem(s, count, maximum),
         Request::Start => steps::start(s),
-        Request::Lock { mutex, time } => steps::lock(s, mutex, time),
-        Request::Unlock { mutex } => steps::unlock(s, mutex),
-        Request::Pend { semaphore, time } => steps::pend(s, semaphore, time),
-        Request::Post { semaphore } => steps::post(s, semaphore),
-        Request::Flush { semaphore } => steps::flush(s, semaphore),
-        Request::Sleep { time } => steps::sleep(s, time),
+        Request::Lock { mutex, time } => waits::lock(s, mutex, time),
+        Request::Unlock { mutex } => waits::unlock(s, mutex),
+        Request::Pend { semaphore, time } => waits::pend(s, semaphore, time),
+        Request::Post { semaphore } => waits::post(s, semaphore),
+        Request::Flush { semaphore } => waits::flush(s, semaphore),
+        Request::Sleep { time } => waits::sleep(s, time),
         Request::Yield => steps::yield_now(s),
         Request::Hold => steps::hold(s),
         Request::Free => steps::free(s),
@@ -113,6 +116,34 @@ pub fn step(s: State, x: Request) -> Out
         number: 15,
         value: 0,
         run: NONE,
+    };
+    Out {
+        state: s,
+        answer: a,
+    }
+}
+
+// "The task to run is then the running one as it stands; where the state handed in isn't sound, it is none"
+fn standing(s: State) -> u8
+    ensures { λ r. ⌜ r ≡ idOf (standingIn s) ⌝ }
+{
+    if is_sound(s) {
+        if s.running < MAX_TASKS {
+            return s.running;
+        }
+        return NONE;
+    }
+    NONE
+}
+
+// A refusal that no step gives, 14 or the log's 8: the record stays.
+pub fn stopped(s: State, number: u8) -> Out
+    ensures { λ r. ⌜ r ≡ stays s number 0 (standingIn s) ⌝ }
+{
+    let a = Answer::Refused {
+        number: number,
+        value: 0,
+        run: standing(s),
     };
     Out {
         state: s,

@@ -1,14 +1,18 @@
 // The kernel: its state record, and the step that takes any record and any request.
+mod answers;
 mod api;
 mod objects;
 mod settle;
 mod sound;
 mod steps;
 mod tables;
+mod tidy;
+mod waits;
 
 pub use api::fresh;
 pub use api::is_sound;
 pub use api::step;
+pub use api::stopped;
 
 // How many of each there can be. A queue has a place for each task.
 pub const TASKS: usize = queues::PLACES;

@@ -1,11 +1,6 @@
-// One function for each step: its refusals in the table's order, then what it does. The record handed in is sound.
+// Creation, start, yield, hold and free, tick, level, outcome: the refusals in the order of the table, then what the step does. The record is sound.
 ghost use mathlib.Core.Path.{_≡_};
-ghost use Prim.Native.Nat.{_<_, _≤_};
-ghost use Rattle.kernel.specs.declared.Answer;
-ghost use Rattle.kernel.specs.Machine.{countAt, maximumAt, accept, refuse, isTime, waitRefusal, taskStep, mutexStep, semStep, startStep, lockStep, lockWaits, passed, unlockStep, pendStep, creditStep, postStep, flushStep, sleepStep, yieldStep, holdStep, freeStep, tickStep, levelStep, outcomeStep};
-use crate::Answer;
-use crate::FLUSHED;
-use crate::FOREVER;
+ghost use Rattle.kernel.specs.Machine.{taskStep, mutexStep, semStep, startStep, yieldStep, holdStep, freeStep, tickStep, levelStep, outcomeStep};
 use crate::GRANTED;
 use crate::KINDS;
 use crate::LEVELS;
@@ -13,84 +8,27 @@ use crate::MAX_HOLD;
 use crate::MAX_MUTEXES;
 use crate::MAX_SEMAPHORES;
 use crate::MAX_TASKS;
-use crate::MAX_TICKS;
 use crate::NONE;
-use crate::ON_MUTEX;
-use crate::ON_SEMAPHORE;
-use crate::ON_TIME;
 use crate::Out;
 use crate::State;
-use crate::TASKS;
 use crate::TIMED_OUT;
+use crate::answers;
 use crate::objects;
 use crate::settle;
 use crate::tables;
-
-fn accepted(s: State, number: u8, value: u32) -> Out
-    ensures { λ r. ⌜ r ≡ accept s number value ⌝ }
-{
-    let a = Answer::Accepted {
-        number: number,
-        value: value,
-        run: s.running,
-    };
-    Out {
-        state: s,
-        answer: a,
-    }
-}
-
-pub fn refused(s: State, number: u8, value: u32) -> Out
-    ensures { λ r. ⌜ r ≡ refuse s number value ⌝ }
-{
-    let a = Answer::Refused {
-        number: number,
-        value: value,
-        run: s.running,
-    };
-    Out {
-        state: s,
-        answer: a,
-    }
-}
-
-// "0 (don't wait), 1 to 2147483647 ticks, or 4294967295 (forever)"
-fn is_time(t: u32) -> bool
-    ensures { λ r. ⌜ r ≡ isTime t ⌝ }
-{
-    if t <= MAX_TICKS {
-        return true;
-    }
-    t == FOREVER
-}
-
-// Why a caller that would wait may not: 3 where its time is 0, else 11 while scheduling is held; 0 where it may.
-fn wait_refusal(hold: u8, time: u32) -> u8
-    ensures { λ r. ⌜ r ≡ waitRefusal hold time ⌝ }
-{
-    let at_once = time == 0;
-    let held = 0 < hold;
-    if at_once {
-        return 3;
-    }
-    if held {
-        return 11;
-    }
-    0
-}
 
 pub fn task(mut s: State, priority: u32) -> Out
     ensures { λ r. ⌜ r ≡ taskStep s priority ⌝ }
 {
     if s.started != 0 {
-        return refused(s, 4, 0);
+        return answers::refused(s, 4, 0);
     }
     if LEVELS as u32 <= priority {
-        return refused(s, 7, 0);
+        return answers::refused(s, 7, 0);
     }
     let id = s.tasks.n;
     if MAX_TASKS <= id {
-        return refused(s, 8, 0);
+        return answers::refused(s, 8, 0);
     }
     let p = priority as u8;
     let t = objects::add_task(s.tasks, p);
@@ -98,267 +36,71 @@ pub fn task(mut s: State, priority: u32) -> Out
     let q = queues::insert(s.ready, levels, p as u16 + 1, id);
     s.tasks = t;
     s.ready = q;
-    accepted(s, 0, id as u32)
+    answers::accepted(s, 0, id as u32)
 }
 
 pub fn mutex(mut s: State, kind: u32) -> Out
     ensures { λ r. ⌜ r ≡ mutexStep s kind ⌝ }
 {
     if s.started != 0 {
-        return refused(s, 4, 0);
+        return answers::refused(s, 4, 0);
     }
     if KINDS as u32 <= kind {
-        return refused(s, 7, 0);
+        return answers::refused(s, 7, 0);
     }
     let id = s.mutexes.n;
     if MAX_MUTEXES <= id {
-        return refused(s, 8, 0);
+        return answers::refused(s, 8, 0);
     }
     let m = objects::add_mutex(s.mutexes, kind as u8);
     s.mutexes = m;
-    accepted(s, 0, id as u32)
+    answers::accepted(s, 0, id as u32)
 }
 
 pub fn sem(mut s: State, count: u32, maximum: u32) -> Out
     ensures { λ r. ⌜ r ≡ semStep s count maximum ⌝ }
 {
     if s.started != 0 {
-        return refused(s, 4, 0);
+        return answers::refused(s, 4, 0);
     }
     if maximum == 0 {
-        return refused(s, 7, 0);
+        return answers::refused(s, 7, 0);
     }
     if maximum < count {
-        return refused(s, 7, 0);
+        return answers::refused(s, 7, 0);
     }
     let id = s.semaphores.n;
     if MAX_SEMAPHORES <= id {
-        return refused(s, 8, 0);
+        return answers::refused(s, 8, 0);
     }
     let c = objects::add_semaphore(s.semaphores, count, maximum);
     s.semaphores = c;
-    accepted(s, 0, id as u32)
+    answers::accepted(s, 0, id as u32)
 }
 
 pub fn start(mut s: State) -> Out
     ensures { λ r. ⌜ r ≡ startStep s ⌝ }
 {
     if s.started != 0 {
-        return refused(s, 4, 0);
+        return answers::refused(s, 4, 0);
     }
     s.started = 1;
     let d = settle::dispatch(s);
-    accepted(d, 0, 0)
-}
-
-// A lock that meets a taken mutex: the caller waits, unless it may not.
-fn lock_waits(s: State, m: u8, time: u32) -> Out
-    ensures { λ r. ⌜ r ≡ lockWaits s m time ⌝ }
-{
-    let no = wait_refusal(s.hold, time);
-    if no != 0 {
-        return refused(s, no, 0);
-    }
-    let t = s.tasks;
-    let mutexes = s.mutexes;
-    let next = tables::next_of(t, mutexes);
-    let f = walks::follow(&next, tables::owner_at(mutexes, m), s.running, t.n);
-    if f.ring {
-        return refused(s, 12, f.links as u32);
-    }
-    let b = settle::block(s, s.running, ON_MUTEX, m, time);
-    let d = settle::dispatch(settle::settle(b, [0u8; TASKS]));
-    accepted(d, 1, f.links as u32)
-}
-
-pub fn lock(mut s: State, m: u32, time: u32) -> Out
-    ensures { λ r. ⌜ r ≡ lockStep s m time ⌝ }
-{
-    if s.started == 0 {
-        return refused(s, 4, 0);
-    }
-    if s.running == NONE {
-        return refused(s, 5, 0);
-    }
-    if s.mutexes.n as u32 <= m {
-        return refused(s, 6, 0);
-    }
-    if !is_time(time) {
-        return refused(s, 7, 0);
-    }
-    let j = m as u8;
-    let owner = tables::owner_at(s.mutexes, j);
-    if owner == s.running {
-        return refused(s, 9, 0);
-    }
-    if owner == NONE {
-        let mutexes = objects::set_owner(s.mutexes, j, s.running);
-        s.mutexes = mutexes;
-        return accepted(s, 0, 0);
-    }
-    lock_waits(s, j, time)
-}
-
-// Ownership passes to `w`, or the mutex becomes free.
-fn pass(mut s: State, m: u8, w: u8) -> State
-    ensures { λ r. ⌜ r ≡ passed s m w ⌝ }
-{
-    let mutexes = objects::set_owner(s.mutexes, m, w);
-    if w == NONE {
-        s.mutexes = mutexes;
-        return s;
-    }
-    let flags = tables::only(w);
-    let mut r = settle::wake(s, flags, GRANTED, GRANTED);
-    r.mutexes = mutexes;
-    settle::dispatch(settle::settle(r, flags))
-}
-
-pub fn unlock(s: State, m: u32) -> Out
-    ensures { λ r. ⌜ r ≡ unlockStep s m ⌝ }
-{
-    if s.started == 0 {
-        return refused(s, 4, 0);
-    }
-    if s.running == NONE {
-        return refused(s, 5, 0);
-    }
-    if s.mutexes.n as u32 <= m {
-        return refused(s, 6, 0);
-    }
-    let j = m as u8;
-    if tables::owner_at(s.mutexes, j) != s.running {
-        return refused(s, 10, 0);
-    }
-    let t = s.tasks;
-    let kinds = t.wait;
-    let objects = t.object;
-    let urgency = t.level;
-    let w = queues::best_waiter(s.waiting, kinds, objects, urgency, ON_MUTEX, j);
-    let r = pass(s, j, w);
-    accepted(r, 0, 0)
-}
-
-pub fn pend(mut s: State, k: u32, time: u32) -> Out
-    ensures { λ r. ⌜ r ≡ pendStep s k time ⌝ }
-{
-    if s.started == 0 {
-        return refused(s, 4, 0);
-    }
-    if s.running == NONE {
-        return refused(s, 5, 0);
-    }
-    if s.semaphores.n as u32 <= k {
-        return refused(s, 6, 0);
-    }
-    if !is_time(time) {
-        return refused(s, 7, 0);
-    }
-    let j = k as u8;
-    let count = objects::count_at(s.semaphores, j);
-    if count != 0 {
-        let c = objects::set_count(s.semaphores, j, count - 1);
-        s.semaphores = c;
-        return accepted(s, 0, 0);
-    }
-    let no = wait_refusal(s.hold, time);
-    if no != 0 {
-        return refused(s, no, 0);
-    }
-    let b = settle::block(s, s.running, ON_SEMAPHORE, j, time);
-    let d = settle::dispatch(b);
-    accepted(d, 1, 0)
-}
-
-// The waiter `w` gets the credit; where there is none, the count rises. No sound record counts beyond the maximum.
-fn credit(mut s: State, j: u8, w: u8) -> Out
-    requires { ⌜ countAt (s .semaphores) j ≤ maximumAt (s .semaphores) j ⌝ }
-    ensures { λ r. ⌜ r ≡ creditStep s j w ⌝ }
-{
-    if w != NONE {
-        let flags = tables::only(w);
-        let r = settle::wake(s, flags, GRANTED, GRANTED);
-        let d = settle::dispatch(settle::line_up(r, flags));
-        return accepted(d, 0, 0);
-    }
-    let count = objects::count_at(s.semaphores, j);
-    if count == objects::maximum_at(s.semaphores, j) {
-        return refused(s, 2, 0);
-    }
-    let c = objects::set_count(s.semaphores, j, count + 1);
-    s.semaphores = c;
-    accepted(s, 0, 0)
-}
-
-pub fn post(s: State, k: u32) -> Out
-    requires { ⌜ (k < s .semaphores .n → countAt (s .semaphores) k ≤ maximumAt (s .semaphores) k) ⌝ }
-    ensures { λ r. ⌜ r ≡ postStep s k ⌝ }
-{
-    if s.started == 0 {
-        return refused(s, 4, 0);
-    }
-    if s.semaphores.n as u32 <= k {
-        return refused(s, 6, 0);
-    }
-    let j = k as u8;
-    let t = s.tasks;
-    let kinds = t.wait;
-    let objects = t.object;
-    let levels = t.level;
-    let w = queues::best_waiter(s.waiting, kinds, objects, levels, ON_SEMAPHORE, j);
-    credit(s, j, w)
-}
-
-pub fn flush(s: State, k: u32) -> Out
-    ensures { λ r. ⌜ r ≡ flushStep s k ⌝ }
-{
-    if s.started == 0 {
-        return refused(s, 4, 0);
-    }
-    if s.semaphores.n as u32 <= k {
-        return refused(s, 6, 0);
-    }
-    let flags = tables::waiter_flags(s.tasks, ON_SEMAPHORE, k as u8);
-    let r = settle::wake(s, flags, FLUSHED, FLUSHED);
-    let d = settle::dispatch(settle::line_up(r, flags));
-    accepted(d, 0, 0)
-}
-
-pub fn sleep(s: State, time: u32) -> Out
-    ensures { λ r. ⌜ r ≡ sleepStep s time ⌝ }
-{
-    if s.started == 0 {
-        return refused(s, 4, 0);
-    }
-    if s.running == NONE {
-        return refused(s, 5, 0);
-    }
-    if time == 0 {
-        return refused(s, 7, 0);
-    }
-    if MAX_TICKS < time {
-        return refused(s, 7, 0);
-    }
-    if s.hold != 0 {
-        return refused(s, 11, 0);
-    }
-    let b = settle::block(s, s.running, ON_TIME, 0, time);
-    let d = settle::dispatch(b);
-    accepted(d, 1, 0)
+    answers::accepted(d, 0, 0)
 }
 
 pub fn yield_now(mut s: State) -> Out
     ensures { λ r. ⌜ r ≡ yieldStep s ⌝ }
 {
     if s.started == 0 {
-        return refused(s, 4, 0);
+        return answers::refused(s, 4, 0);
     }
     let id = s.running;
     if id == NONE {
-        return refused(s, 5, 0);
+        return answers::refused(s, 5, 0);
     }
     if s.hold != 0 {
-        return refused(s, 11, 0);
+        return answers::refused(s, 11, 0);
     }
     let t = s.tasks;
     let levels = t.level;
@@ -367,47 +109,47 @@ pub fn yield_now(mut s: State) -> Out
     s.ready = q;
     s.running = NONE;
     let d = settle::dispatch(s);
-    accepted(d, 0, 0)
+    answers::accepted(d, 0, 0)
 }
 
 pub fn hold(mut s: State) -> Out
     ensures { λ r. ⌜ r ≡ holdStep s ⌝ }
 {
     if s.started == 0 {
-        return refused(s, 4, 0);
+        return answers::refused(s, 4, 0);
     }
     if s.running == NONE {
-        return refused(s, 5, 0);
+        return answers::refused(s, 5, 0);
     }
     if MAX_HOLD <= s.hold {
-        return refused(s, 13, 0);
+        return answers::refused(s, 13, 0);
     }
     s.hold += 1;
-    accepted(s, 0, 0)
+    answers::accepted(s, 0, 0)
 }
 
 pub fn free(mut s: State) -> Out
     ensures { λ r. ⌜ r ≡ freeStep s ⌝ }
 {
     if s.started == 0 {
-        return refused(s, 4, 0);
+        return answers::refused(s, 4, 0);
     }
     if s.running == NONE {
-        return refused(s, 5, 0);
+        return answers::refused(s, 5, 0);
     }
     if s.hold == 0 {
-        return refused(s, 13, 0);
+        return answers::refused(s, 13, 0);
     }
     s.hold -= 1;
     let d = settle::dispatch(s);
-    accepted(d, 0, 0)
+    answers::accepted(d, 0, 0)
 }
 
 pub fn tick(mut s: State) -> Out
     ensures { λ r. ⌜ r ≡ tickStep s ⌝ }
 {
     if s.started == 0 {
-        return refused(s, 4, 0);
+        return answers::refused(s, 4, 0);
     }
     let clock = tables::due_at(s.clock, 1);
     let flags = tables::due_flags(s.tasks, s.clock);
@@ -415,32 +157,32 @@ pub fn tick(mut s: State) -> Out
         let mut r = settle::wake(s, flags, GRANTED, TIMED_OUT);
         r.clock = clock;
         let d = settle::dispatch(settle::settle(r, flags));
-        return accepted(d, 0, 0);
+        return answers::accepted(d, 0, 0);
     }
     s.clock = clock;
-    accepted(s, 0, 0)
+    answers::accepted(s, 0, 0)
 }
 
 pub fn level(s: State, i: u32) -> Out
     ensures { λ r. ⌜ r ≡ levelStep s i ⌝ }
 {
     if s.tasks.n as u32 <= i {
-        return refused(s, 6, 0);
+        return answers::refused(s, 6, 0);
     }
     let t = s.tasks;
     let levels = t.level;
     let v = queues::key_of(levels, i as u8);
-    accepted(s, 0, v as u32)
+    answers::accepted(s, 0, v as u32)
 }
 
 pub fn outcome(s: State, i: u32) -> Out
     ensures { λ r. ⌜ r ≡ outcomeStep s i ⌝ }
 {
     if s.tasks.n as u32 <= i {
-        return refused(s, 6, 0);
+        return answers::refused(s, 6, 0);
     }
     let t = s.tasks;
     let outcomes = t.outcome;
     let v = queues::key_of(outcomes, i as u8);
-    accepted(s, 0, v as u32)
+    answers::accepted(s, 0, v as u32)
 }

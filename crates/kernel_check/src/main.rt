@@ -1,6 +1,7 @@
 // Steps through the edges that document 01 wants run, and through damaged records, and prints what comes back.
 mod damaged;
 mod edges;
+mod records;
 mod show;
 
 fn main() {

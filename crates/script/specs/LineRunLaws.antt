@@ -1,23 +1,28 @@
--- Laws of one line run: a line that is a step is a call of demand 3's list, and a malformed one changes nothing.
+-- Laws of one line run: a line that is a step is a call of demand 3's list; a malformed one changes nothing, and is answered as the rules answer it.
 use mathlib.Core.Path.{_≡_, refl, ap, sym, _∙_}
 use mathlib.Core.List.{List, [], _∷_, _++_}
 use mathlib.Core.Bool.{Bool, true, false, cond}
 use mathlib.Core.Logic.{inl, inr}
 use mathlib.Core.Option.{Option, none, some}
-use Prim.Native.Nat.{ℕ, _+_, _≤_, _<_}
+use Prim.Native.Nat.{ℕ, _+_, _≤_}
 use native.Mathlib.Omega.{arith}
 use lib.Dec.{leb}
 use lib.ListN.{length, length-append}
-use borrow.Author.Tests.{le-leb}
-use Rattle.lists.specs.TestLaws.{which}
+use Rattle.lists.specs.TestLaws.{which, and-r}
 use Rattle.text.specs.Decimal.{decimal}
 use Rattle.text.specs.DecimalLaws.{decimal-length}
 use Rattle.text.specs.Place.{room, putAnswer}
 use Rattle.text.specs.declared.place.Put.the-variants.{Next, Full}
 use Rattle.rules.specs.Step.{Step}
-use Rattle.rules.specs.Log.{tab, lf, runField, logLine, Call}
+use Rattle.rules.specs.Log.{tab, lf, runField, logLine}
 use Rattle.walks.specs.Walk.{taskAt}
-use Rattle.kernel.specs.StepRecord.{stays, stepOf}
+use Rattle.rules.specs.Answer.{standing, malformed}
+use Rattle.rules.specs.Sound.{soundb}
+use Rattle.kernel.specs.Record.{view}
+use Rattle.kernel.specs.SoundRecord.{soundOf}
+use Rattle.kernel.specs.GoodRecord.{Typed}
+use Rattle.kernel.specs.SoundPackLaws.{sound-pack}
+use Rattle.kernel.specs.StepRecord.{answerFor, outFor, stays, stepOf}
 use Rattle.kernel.specs.DemandRecord.{requestFor, readOut, standingIn, inMemory, callRecord}
 use Rattle.kernel.specs.declared.State.{State}
 use Rattle.kernel.specs.declared.Out.{Out}
@@ -25,7 +30,6 @@ use Rattle.kernel.specs.declared.Request.{Request}
 use Rattle.script.specs.Form.{sameBytes, stepOn}
 use Rattle.script.specs.LogLine.{lineBytes, headerBytes, logBytes, badBytes}
 use Rattle.script.specs.Reading.{readingFor}
-use Rattle.script.specs.declared.read.Reading.{Reading}
 use Rattle.script.specs.declared.read.Reading.the-variants.{Made, Malformed}
 use Rattle.script.specs.LineRun.{awaiting, running, over, answered, lineFor, ranWith, reported, ranLine, headLog, headStage, headed}
 use Rattle.script.specs.Pieces.{lineRoom}
@@ -74,6 +78,23 @@ module _ (k : State) (line memory : List ℕ) where
       same : (b : Bool) → (cond b (stays k 14 0 (standingIn k)) (stays k 8 0 (standingIn k))) .state ≡ k
       same true = refl
       same false = refl
+
+-- on a sound record a malformed line is answered as the rules answer it: 14, value 0, the running task as it stands
+view-runs : (k : State) → (view k) .running ≡ taskAt (k .running)
+unfolding view
+view-runs k = refl
+
+view-sound : (k : State) → soundOf k ≡ true → soundb (view k) ≡ true
+unfolding soundOf
+view-sound k e = and-r _ _ (and-r _ _ e)
+
+stands-ruled : (k : State) → soundOf k ≡ true → standingIn k ≡ standing (view k)
+unfolding standingIn standing
+stands-ruled k e = rw (e, view-sound k e) (sym (view-runs k))
+
+pub malformed-ruled : (k : State) → Typed k → soundOf k ≡ true → answered k none ≡ outFor (malformed (view k))
+unfolding answered stays outFor answerFor malformed
+malformed-ruled k T e = ap (stays k 14 0) (stands-ruled k e) ∙ ap (λ z. stays z 14 0 (standing (view k))) (sym (sound-pack k e T))
 
 -- by what became of the log line: it was written, or it had no room
 module _ (k : State) (o : Out) (memory : List ℕ) where

@@ -1,8 +1,7 @@
--- A log line of the record's numbers is the rules' log line; its fields and its length.
+-- The fields of a log line, and its length.
 use mathlib.Core.Path.{_≡_, refl, ap, _∙_}
 use mathlib.Core.List.{List, [], _∷_}
 use mathlib.Core.Logic.{inl, inr}
-use mathlib.Core.Option.{Option, none, some}
 use Prim.Native.Nat.{ℕ, _+_, _≤_, _<_}
 use native.Mathlib.Omega.{arith}
 use lib.Dec.{ltb}
@@ -12,31 +11,10 @@ use Rattle.lists.specs.TestLaws.{which}
 use Rattle.text.specs.Decimal.{maxDigits, decimal}
 use Rattle.text.specs.DecimalLaws.{decimal-length}
 use Rattle.rules.specs.Sizes.{maxTasks}
-use Rattle.rules.specs.Answer.{Answer}
-use Rattle.rules.specs.Log.{tab, lf, dash, runField, logLine}
-use Rattle.queues.specs.Queue.{idOf}
+use Rattle.rules.specs.Log.{tab, lf, dash, runField}
 use Rattle.walks.specs.Walk.{taskAt}
-use Rattle.kernel.specs.StepRecord.{numberOf, valueOf, runOf}
-use Rattle.kernel.specs.DemandRecord.{readOut}
-use Rattle.kernel.specs.declared.Out.{Out}  -- keep
 use Rattle.script.specs.LogLine.{lineBytes}
 use Rattle.script.specs.PutLaws.{whole}
-
--- the task of the id of a task, or none of that of none
-pub task-back : (o : Option ℕ) → ((i : ℕ) → o ≡ some i → i < maxTasks) → taskAt (idOf o) ≡ o
-unfolding idOf
-task-back none h = refl
-task-back (some i) h = rw (lt-ltb i maxTasks (h i refl))
-
--- of an answer of the rules, its task to run given by its id
-pub line-ruled : (a : Answer) → ((i : ℕ) → a .run ≡ some i → i < maxTasks) → lineBytes (a .number) (a .value) (idOf (a .run)) ≡ logLine a
-unfolding lineBytes logLine
-line-ruled a h = rw (task-back (a .run) h)
-
--- of what the kernel's step gives
-pub line-out : (o : Out) → lineBytes (numberOf (o .answer)) (valueOf (o .answer)) (runOf (o .answer)) ≡ logLine (readOut o)
-unfolding lineBytes logLine readOut
-line-out o = refl
 
 -- the field of the task to run
 pub run-task : (x : ℕ) → x < maxTasks → runField (taskAt x) ≡ decimal x

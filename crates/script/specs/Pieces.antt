@@ -2,7 +2,7 @@
 use Prim.Native.Nat.{ℕ, _*_, _≤_}
 use mathlib.Core.List.{List, [], _∷_, _++_}
 use lib.ListN.{length, take}
-use Rattle.script.specs.Session.{Stand, Through, movedTo, pieceRun, endRun}
+use Rattle.script.specs.Session.{Stand, movedTo, pieceRun, endRun}
 use Rattle.script.specs.declared.session.Session.{Session}
 
 -- bytes that arrive, and the memory that is lent for their log lines, whatever it holds

@@ -4,15 +4,14 @@ use mathlib.Core.List.{List, [], _∷_, _++_, append-nil, append-assoc, map, fla
 use mathlib.Core.Bool.{Bool, true, false, cond}
 use mathlib.Core.Logic.{inl, inr}
 use mathlib.Core.Option.{none}
-use Prim.Native.Nat.{ℕ, zero, suc, _+_, _*_, _≤_, _<_}
+use Prim.Native.Nat.{ℕ, _+_, _*_, _≤_, _<_}
 use native.Mathlib.Omega.{arith}
 use lib.Dec.{eqb, leb}
-use lib.ListN.{length, take, drop}
+use lib.ListN.{length}
 use borrow.Author.Tests.{eqb-true, leb-false, lt-leb}
-use Rattle.lists.specs.Test.{_and_}
-use Rattle.lists.specs.TestLaws.{which, by-test, and-l, and-r, clash}
+use Rattle.lists.specs.TestLaws.{which, by-test}
 use Rattle.text.specs.Arrive.{Event, Line, Long, Begun, Held, grown, events, marked}
-use Rattle.text.specs.Calls.{calls, pieceCalls, allHanded}
+use Rattle.text.specs.Calls.{pieceCalls, allHanded}
 use Rattle.text.specs.CallsLaws.{calls-right, handed-lines}
 use Rattle.text.specs.Cut.{pieces}
 use Rattle.text.specs.Fields.{fields}
@@ -26,11 +25,11 @@ use Rattle.script.specs.LogLine.{headerBytes, logBytes, badBytes}
 use Rattle.script.specs.LineRun.{awaiting, running, over, answered, lineFor, headLog, headStage}
 use Rattle.script.specs.WholeLog.{logFrom, logOf, wholeLog}
 use Rattle.script.specs.Session.{lineIn, takeAll, through, pieceRun, lastEvents, leftEvents, endRun, freshSession, begins, movedTo}
-use Rattle.script.specs.Pieces.{Piece, lineRoom, Roomy, AllRoomy, none-roomy, more-roomy, written, piecesLog}
+use Rattle.script.specs.Pieces.{Piece, lineRoom, AllRoomy, more-roomy, written, piecesLog}
 use Rattle.text.specs.declared.arrive.Found.{Found}
 use Rattle.text.specs.declared.arrive.Found.the-variants as found
 use Rattle.script.specs.SessionLaws.{one-left}
-use Rattle.script.specs.RoomLaws.{lineLog, lineState, lineStage, eventsLog, eventsState, eventsStage, events-stand, written-after, events-room, standAfter}
+use Rattle.script.specs.RoomLaws.{lineLog, lineState, lineStage, eventsLog, eventsState, eventsStage, events-stand, written-after, events-room}
 use Rattle.script.specs.SameLaws.{same-length}
 use Rattle.script.specs.declared.session.Session.{Session}
 

@@ -1,7 +1,7 @@
 -- Laws of log lines one behind another in lent memory: with room, they stand there whole and in order.
-use mathlib.Core.Path.{_≡_, refl, ap, sym, _∙_}
+use mathlib.Core.Path.{_≡_, ap, sym, _∙_}
 use mathlib.Core.List.{List, [], _∷_, _++_, append-nil, append-assoc}
-use mathlib.Core.Bool.{Bool, true, false, cond}
+use mathlib.Core.Bool.{true, cond}
 use mathlib.Core.Logic.{inl, inr}
 use Prim.Native.Nat.{ℕ, _+_, _*_, _≤_}
 use native.Mathlib.Omega.{arith}
@@ -17,11 +17,10 @@ use Rattle.kernel.specs.declared.State.{State}
 use Rattle.script.specs.Ascii.{ascii}
 use Rattle.script.specs.Form.{sameBytes, stepOn}
 use Rattle.script.specs.LogLine.{headerBytes, logBytes, badBytes}
-use Rattle.script.specs.LineRun.{awaiting, running, answered, lineFor, ranWith, reported, ranLine, memoryLine, headLog, headStage, headed, memoryHead}
+use Rattle.script.specs.LineRun.{awaiting, running, answered, lineFor, reported, ranLine, memoryLine, headLog, headStage, headed, memoryHead}
 use Rattle.script.specs.LineRunLaws.{line-room}
 use Rattle.script.specs.Session.{taken, takenMemory, Stand, stood, takeLine, lineIn, takeAll}
 use Rattle.script.specs.Pieces.{lineRoom, written}
-use Rattle.script.specs.declared.session.Taken.{Taken}
 
 -- what a line puts into the log where it has room, and the record and the stage after it
 unfoldable pub lineLog : State → ℕ → List ℕ → List ℕ

@@ -11,7 +11,7 @@ use lib.Seq.{take-all}
 use borrow.Author.Tests.{eq-eqb, ne-eqb, lt-ltb, le-ltb, ltb-true, leb-true}
 use Rattle.lists.specs.TestLaws.{which, clash, by-test}
 use Rattle.text.specs.Arrive.{Event, Line}
-use Rattle.text.specs.Calls.{Calls, calls, noCall, behindEvents}
+use Rattle.text.specs.Calls.{calls, noCall, behindEvents}
 use Rattle.text.specs.Feed.{fed, carryAfter, lineOf, eventsOf, lastFound}
 use Rattle.text.specs.FeedEvents.{feed-on}
 use Rattle.text.specs.declared.arrive.Fed.{Fed}
@@ -21,7 +21,7 @@ use Rattle.kernel.specs.declared.State.{State}
 use Rattle.text.specs.Place.{room}
 use Rattle.script.specs.Form.{stepOn}
 use Rattle.script.specs.LineRun.{awaiting, running, answered, lineFor, reported, ranLine, headLog, headed}
-use Rattle.script.specs.Session.{taken, takenMemory, lineIn, foundTaken, foundMemory, turnWith, turned, Stand, stood, takeLine, takeAll, Through, along, through, begins, lastEvents, leftEvents, endRun}
+use Rattle.script.specs.Session.{taken, takenMemory, lineIn, foundTaken, foundMemory, turnWith, turned, Stand, stood, takeLine, takeAll, along, through, begins, lastEvents, leftEvents, endRun}
 use Rattle.script.specs.declared.session.Session.{Session}
 use Rattle.script.specs.declared.run.Ran.{Ran}
 use Rattle.script.specs.declared.run.Headed.{Headed}

@@ -1,6 +1,5 @@
 // One line of a script run on a record, with lent memory for its log line.
 ghost use mathlib.Core.Path.{_≡_};
-ghost use Rattle.queues.specs.Queue.{idOf};
 ghost use Rattle.text.specs.Place.{putAnswer, putBytes};
 ghost use Rattle.kernel.specs.StepRecord.{stays};
 ghost use Rattle.kernel.specs.DemandRecord.{standingIn};
@@ -10,8 +9,6 @@ use crate::log;
 use crate::read;
 use crate::read::Reading;
 use kernel::Answer;
-use kernel::MAX_TASKS;
-use kernel::NONE;
 use kernel::Out;
 use kernel::State;
 use text::place::Put;
@@ -36,41 +33,13 @@ pub struct Headed {
     pub written: usize,
 }
 
-// The task to run as it stands; none where the record isn't sound.
-fn standing(s: State) -> u8
-    ensures { λ r. ⌜ r ≡ idOf (standingIn s) ⌝ }
-{
-    if kernel::is_sound(s) {
-        if s.running < MAX_TASKS {
-            return s.running;
-        }
-        return NONE;
-    }
-    NONE
-}
-
-// A refusal for the line itself, 14 or the log's 8: the record stays.
-fn stopped(s: State, number: u8) -> Out
-    ensures { λ r. ⌜ r ≡ stays s number 0 (standingIn s) ⌝ }
-{
-    let a = Answer::Refused {
-        number: number,
-        value: 0,
-        run: standing(s),
-    };
-    Out {
-        state: s,
-        answer: a,
-    }
-}
-
 // The line's step made, or 14.
 fn answer_line(s: State, line: &[u8]) -> Out
     ensures { λ r. ⌜ r ≡ answered s (stepOn (now (line .entry))) ⌝ }
 {
     let reading = read::read_line(line);
     let Reading::Made(request) = reading else {
-        return stopped(s, 14);
+        return kernel::stopped(s, 14);
     };
     kernel::step(s, request)
 }
@@ -90,7 +59,7 @@ fn write_answer(log: &mut [u8], a: Answer) -> Put
 fn without_room(s: State) -> Ran
     ensures { λ r. ⌜ r ≡ ranWith (stays s 8 0 (standingIn s)) 0 ⌝ }
 {
-    let o = stopped(s, 8);
+    let o = kernel::stopped(s, 8);
     let a = o.answer;
     let same = o.state;
     Ran {

@@ -19,7 +19,7 @@ use Rattle.lists.specs.CountLaws.{eqn-at, eqn-other}
 use Rattle.chains.specs.Chain.{walk, endsb}
 use Rattle.rules.specs.Sizes.{maxTasks}
 use Rattle.walks.specs.Walk.{taskAt, nextIn, lifted, raised, chainFrom}
-use Rattle.walks.specs.WalkLaws.{task-in, task-out, next-in}
+use Rattle.walks.specs.WalkLaws.{task-in, task-out, next-in, getD-lifted}
 
 walk-le : (next : ℕ → Option ℕ) (f : ℕ) (o : Option ℕ) → length (walk f next o) ≤ f
 unfolding walk
@@ -157,6 +157,24 @@ pub raised-step : (own next l m : List ℕ) (n j : ℕ) → l ≡ raised own nex
     → m ≡ raised own next n (j + 1)
 unfolding raised
 raised-step own next l m n j e f = rw (add-one, ← e) f
+
+-- no task ends below its own priority
+raised-le : (own next : List ℕ) (n j i : ℕ) → getD (raised own next n j) i 0 ≤ getD own i 0
+unfolding raised
+raised-le own next n zero i = omega arith
+raised-le own next n (suc j) i =
+    let b : getD (raised own next n j) i 0 ≤ getD own i 0 = raised-le own next n j i in
+    rw (getD-lifted (raised own next n j) (getD own j 0) (walk n (nextIn next) (taskAt j)) i)
+    (by-test (λ (v : ℕ). v ≤ getD own i 0) (member i (walk n (nextIn next) (taskAt j))) (λ u. omega arith) (λ u. omega arith))
+
+-- a task that leads nowhere lifts only itself, and stands there already
+pub raised-alone : (own next l : List ℕ) (n j : ℕ) → l ≡ raised own next n j → 0 < n → j < maxTasks → maxTasks ≤ getD next j 0
+    → l ≡ raised own next n (j + 1)
+raised-alone own next l n j e some-fuel task nowhere =
+    let b : getD l j 0 ≤ getD own j 0 = rw e (raised-le own next n j j) in
+    raised-step own next l l n j e
+    (lift-on next j l (getD own j 0) l l n some-fuel task (raise-not next j l (getD own j 0) b)
+    (lift-out next (getD next j 0) l (getD own j 0) (n - 1) nowhere))
 
 pub raised-done : (own next l : List ℕ) (n j m : ℕ) → m ≡ j → l ≡ raised own next n j → l ≡ raised own next n m
 raised-done own next l n j m q e = rw q e

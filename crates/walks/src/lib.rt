@@ -13,6 +13,9 @@ ghost use Rattle.walks.specs.Walk.{taskAt, nextIn, lifted, raised, chain
 // How many tasks there can be.
 pub const TASKS: usize = 16;
 
+// The same, as ids count.
+const MAX_TASKS: u8 = TASKS as u8;
+
 // Each task on the chain from `at` raised to `p`; the fuel, tasks not yet seen, falls at each call.
 pub fn lift(levels: [u8; TASKS], next: &[u8; TASKS], at: u8, p: u8, fuel: u8) -> [u8; TASKS]
     ensures { λ r. ⌜ r ≡ lifted levels p (chainFrom (now (next .entry)) at fuel) ⌝ }
@@ -42,8 +45,12 @@ pub fn levels_of(own: [u8; TASKS], next: &[u8; TASKS], n: u8) -> [u8; TASKS]
         if TASKS <= i {
             return l;
         }
-        let m = lift(l, next, j, own[i], n);
-        l = m;
+        // A task that leads nowhere lifts only itself, to where it starts.
+        let to = next[i];
+        if to < MAX_TASKS {
+            let m = lift(l, next, j, own[i], n);
+            l = m;
+        }
         j += 1;
     }
     l

@@ -1,10 +1,11 @@
 -- `walks::levels_of` meets its contract. The loop keeps the levels after the first j tasks. Assumes nothing.
 use borrow.Author.Needs.{needs}
-use mathlib.Core.Path.{_≡_}
+use mathlib.Core.Path.{_≡_, _∙_}
+use mathlib.Core.Logic.{inl, inr}
 use native.Mathlib.Omega.{arith}
 use Prim.Native.Nat.{_-_, _≤_, min}
 use Rattle.walks.specs.Walk.{raised}
-use Rattle.walks.proofs.Laws.{raised-none, raised-step, raised-done}
+use Rattle.walks.proofs.Laws.{raised-none, raised-step, raised-alone, raised-done}
 use Rattle.walks.proofs.levels_of.Statement.{statement}
 use Rattle.walks.proofs.levels_of.Tie as tie
 
@@ -25,6 +26,9 @@ returns c = let a = c .before .before .before .args in
     let s = c .before .before .loop in
     raised-done (a .t1) (a .next .now) (s .l) (a .n) (s .j) (min (a .n) 16) (omega arith) (s .inv .2)
 
+element-copy-out-to : tie.Need-element-copy-out-to Inv-loop μ-loop
+element-copy-out-to c = search needs
+
 array-read-lift : tie.Need-array-read-lift Inv-loop μ-loop
 array-read-lift c = search needs
 
@@ -38,9 +42,15 @@ loop-less : tie.Need-loop-less Inv-loop μ-loop
 loop-less c = search needs
 
 loop-again : tie.Need-loop-again Inv-loop μ-loop
-loop-again c = let a = c .before .before .before .before .args in
-    let s = c .before .before .before .loop in
-    (omega arith, omega arith, raised-step (a .t1) (a .next .now) (s .l) (c .lift .result) (a .n) (s .j) (s .inv .2) (c .lift .ensures))
+loop-again c = let a = c .before .before .before .before .before .args in
+    let s = c .before .before .before .before .loop in (
+      omega arith,
+      omega arith,
+      elim (c .if2 .came) [
+        | inl w ↦ w .2 ∙ raised-step (a .t1) (a .next .now) (s .l) (w .1 .result) (a .n) (s .j) (s .inv .2) (w .1 .ensures)
+        | inr w ↦ w .1 ∙ raised-alone (a .t1) (a .next .now) (s .l) (a .n) (s .j) (s .inv .2) (omega arith) (omega arith) (w .0 .left)
+      ],
+    )
 
 returns-2 : tie.Need-returns-2 Inv-loop μ-loop
 returns-2 c = let a = c .before .before .args in
@@ -56,6 +66,7 @@ levels-of-spec =
     loop-holds
     cast-i
     returns
+    element-copy-out-to
     array-read-lift
     lift-requires
     add-j

@@ -7,86 +7,69 @@ use Rattle.firmware.proofs.calls.request_of.Tie as tie
 use Rattle.firmware.proofs.calls.request_of.Reads as reads
 use Rattle.firmware.proofs.calls.request_of.Lts as lts
 
--- src/calls.rt:41:14
 returns : tie.Need-returns
 returns c = sym (beyond _ _ _ (past 15 _ (past 14 _ (past 13 _ (past 12 _ (past 11 _ (past 10 _ (past 9 _ (past 8 _ (past 7 _ (past 6 _ (past 5 _ (past 4 _ (past 3 _ (past 2 _ (past 1 _ (past 0 _ (omega arith) (c .match .rest .0 .0 .0 .0 .0 .0 .0 .0 .0 .0 .0 .0 .0 .0 .0 .1)) (c .match .rest .0 .0 .0 .0 .0 .0 .0 .0 .0 .0 .0 .0 .0 .0 .1)) (c .match .rest .0 .0 .0 .0 .0 .0 .0 .0 .0 .0 .0 .0 .0 .1)) (c .match .rest .0 .0 .0 .0 .0 .0 .0 .0 .0 .0 .0 .0 .1)) (c .match .rest .0 .0 .0 .0 .0 .0 .0 .0 .0 .0 .0 .1)) (c .match .rest .0 .0 .0 .0 .0 .0 .0 .0 .0 .0 .1)) (c .match .rest .0 .0 .0 .0 .0 .0 .0 .0 .0 .1)) (c .match .rest .0 .0 .0 .0 .0 .0 .0 .0 .1)) (c .match .rest .0 .0 .0 .0 .0 .0 .0 .1)) (c .match .rest .0 .0 .0 .0 .0 .0 .1)) (c .match .rest .0 .0 .0 .0 .0 .1)) (c .match .rest .0 .0 .0 .0 .1)) (c .match .rest .0 .0 .0 .1)) (c .match .rest .0 .0 .1)) (c .match .rest .0 .1)) (c .match .rest .1)))
 
--- src/calls.rt:15:1
 returns-2 : tie.Need-returns-2
 unfolding requestOf
 returns-2 c = rw (c .match .keys1) refl
 
--- src/calls.rt:15:1
 returns-3 : tie.Need-returns-3
 unfolding requestOf
 returns-3 c = rw (c .match .keys2) refl
 
--- src/calls.rt:15:1
 returns-4 : tie.Need-returns-4
 unfolding requestOf
 returns-4 c = rw (c .match .keys3) refl
 
--- src/calls.rt:15:1
 returns-5 : tie.Need-returns-5
 unfolding requestOf
 returns-5 c = rw (c .match .keys4) refl
 
--- src/calls.rt:15:1
 returns-6 : tie.Need-returns-6
 unfolding requestOf
 returns-6 c = rw (c .match .keys5) refl
 
--- src/calls.rt:15:1
 returns-7 : tie.Need-returns-7
 unfolding requestOf
 returns-7 c = rw (c .match .keys6) refl
 
--- src/calls.rt:15:1
 returns-8 : tie.Need-returns-8
 unfolding requestOf
 returns-8 c = rw (c .match .keys7) refl
 
--- src/calls.rt:15:1
 returns-9 : tie.Need-returns-9
 unfolding requestOf
 returns-9 c = rw (c .match .keys8) refl
 
--- src/calls.rt:15:1
 returns-10 : tie.Need-returns-10
 unfolding requestOf
 returns-10 c = rw (c .match .keys9) refl
 
--- src/calls.rt:15:1
 returns-11 : tie.Need-returns-11
 unfolding requestOf
 returns-11 c = rw (c .match .keys10) refl
 
--- src/calls.rt:15:1
 returns-12 : tie.Need-returns-12
 unfolding requestOf
 returns-12 c = rw (c .match .keys11) refl
 
--- src/calls.rt:15:1
 returns-13 : tie.Need-returns-13
 unfolding requestOf
 returns-13 c = rw (c .match .keys12) refl
 
--- src/calls.rt:15:1
 returns-14 : tie.Need-returns-14
 unfolding requestOf
 returns-14 c = rw (c .match .keys13) refl
 
--- src/calls.rt:15:1
 returns-15 : tie.Need-returns-15
 unfolding requestOf
 returns-15 c = rw (c .match .keys14) refl
 
--- src/calls.rt:15:1
 returns-16 : tie.Need-returns-16
 unfolding requestOf
 returns-16 c = rw (c .match .keys15) refl
 
--- src/calls.rt:15:1
 returns-17 : tie.Need-returns-17
 unfolding requestOf
 returns-17 c = rw (c .match .keys16) refl

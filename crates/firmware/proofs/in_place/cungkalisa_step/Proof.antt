@@ -44,18 +44,18 @@ use Rattle.kernel.proofs.Out as O
 use Rattle.kernel.proofs.Out.Laws as O′
 use Rattle.kernel.proofs.State as T
 use Rattle.kernel.proofs.State.Laws as T′
-use Rattle.firmware.proofs.in_place.made as g
-use Rattle.firmware.proofs.in_place.made.Symbol as g-def
-use Rattle.firmware.proofs.in_place.made.Symbol.{name as #made}
-use Rattle.firmware.proofs.in_place.made.Met as g-thm
-use Rattle.firmware.proofs.in_place.state_of as gs
-use Rattle.firmware.proofs.in_place.state_of.Symbol as gs-def
-use Rattle.firmware.proofs.in_place.state_of.Symbol.{name as #state-of}
-use Rattle.firmware.proofs.in_place.state_of.Met as gs-thm
-use Rattle.firmware.proofs.in_place.code_of as gr
-use Rattle.firmware.proofs.in_place.code_of.Symbol as gr-def
-use Rattle.firmware.proofs.in_place.code_of.Symbol.{name as #code-of}
-use Rattle.firmware.proofs.in_place.code_of.Met as gr-thm
+use Rattle.firmware.proofs.by_value.made as g
+use Rattle.firmware.proofs.by_value.made.Symbol as g-def
+use Rattle.firmware.proofs.by_value.made.Symbol.{name as #made}
+use Rattle.firmware.proofs.by_value.made.Met as g-thm
+use Rattle.firmware.proofs.by_value.state_of as gs
+use Rattle.firmware.proofs.by_value.state_of.Symbol as gs-def
+use Rattle.firmware.proofs.by_value.state_of.Symbol.{name as #state-of}
+use Rattle.firmware.proofs.by_value.state_of.Met as gs-thm
+use Rattle.firmware.proofs.by_value.code_of as gr
+use Rattle.firmware.proofs.by_value.code_of.Symbol as gr-def
+use Rattle.firmware.proofs.by_value.code_of.Symbol.{name as #code-of}
+use Rattle.firmware.proofs.by_value.code_of.Met as gr-thm
 use Rattle.firmware.proofs.in_place.cungkalisa_step.Key.{name as #cungkalisa-step}
 use Rattle.firmware.proofs.in_place.cungkalisa_step as f
 use Rattle.firmware.proofs.in_place.cungkalisa_step.Statement as stated
@@ -196,6 +196,6 @@ cungkalisa-step-spec 𝓤 H 𝓜 𝓖 𝓡 =
     entered 𝓤 H (tripleOf 𝓤 H (𝓖 .A) f.signature (f.spec 𝓤 H (𝓖 .A) (𝓜 .mem) (𝓡 .run)))
     (tables 𝓤 H 𝓜 𝓡 code.env .C) (tables 𝓤 H 𝓜 𝓡 code.env .Λ) #cungkalisa-step code.function (code.unfolded 𝓤 H 𝓜 𝓡)
     (meets 𝓤 H (𝓖 .A) (givenOf 𝓤 H 𝓜 𝓖) (𝓜 .mem) (𝓡 .run) (tablesOf 𝓤 H 𝓜 (tables 𝓤 H 𝓜 𝓡 code.env))
-    (cited 𝓤 H (Made 𝓤 H (𝓖 .A) (𝓜 .mem) (𝓡 .run)) 𝓜 𝓡 code.env #made g-def.routine code.calls-firmware·in-place·made (g-thm.met 𝓤 H 𝓜 𝓖 𝓡))
-    (cited 𝓤 H (StateOf 𝓤 H (𝓖 .A) (𝓜 .mem) (𝓡 .run)) 𝓜 𝓡 code.env #state-of gs-def.routine code.calls-firmware·in-place·state-of (gs-thm.met 𝓤 H 𝓜 𝓖 𝓡))
-    (cited 𝓤 H (CodeOf 𝓤 H (𝓖 .A) (𝓜 .mem) (𝓡 .run)) 𝓜 𝓡 code.env #code-of gr-def.routine code.calls-firmware·in-place·code-of (gr-thm.met 𝓤 H 𝓜 𝓖 𝓡)))
+    (cited 𝓤 H (Made 𝓤 H (𝓖 .A) (𝓜 .mem) (𝓡 .run)) 𝓜 𝓡 code.env #made g-def.routine code.calls-firmware·by-value·made (g-thm.met 𝓤 H 𝓜 𝓖 𝓡))
+    (cited 𝓤 H (StateOf 𝓤 H (𝓖 .A) (𝓜 .mem) (𝓡 .run)) 𝓜 𝓡 code.env #state-of gs-def.routine code.calls-firmware·by-value·state-of (gs-thm.met 𝓤 H 𝓜 𝓖 𝓡))
+    (cited 𝓤 H (CodeOf 𝓤 H (𝓖 .A) (𝓜 .mem) (𝓡 .run)) 𝓜 𝓡 code.env #code-of gr-def.routine code.calls-firmware·by-value·code-of (gr-thm.met 𝓤 H 𝓜 𝓖 𝓡)))

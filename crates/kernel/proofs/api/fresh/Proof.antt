@@ -9,7 +9,6 @@ use Rattle.kernel.proofs.api.fresh.Tie as tie
 use Rattle.kernel.proofs.api.fresh.Reads as reads
 use Rattle.kernel.proofs.api.fresh.Lts as lts
 
--- src/api.rt:16:1
 returns : tie.Need-returns
 unfolding freshRecord fresh pack packTasks packMutexes packSemaphores pad filled queueOf idOf
 returns c = refl

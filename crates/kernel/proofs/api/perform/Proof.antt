@@ -4,227 +4,179 @@ use Rattle.kernel.proofs.api.perform.Statement.{statement}
 use Rattle.kernel.proofs.api.perform.Tie as tie
 use Rattle.kernel.proofs.api.perform.Reads as reads
 use Rattle.kernel.proofs.api.perform.Lts as lts
-use Rattle.kernel.proofs.steps.flush.Reads as flush-reads
+use Rattle.kernel.proofs.waits.flush.Reads as flush-reads
 use Rattle.kernel.proofs.steps.free.Reads as free-reads
 use Rattle.kernel.proofs.steps.hold.Reads as hold-reads
 use Rattle.kernel.proofs.steps.level.Reads as level-reads
-use Rattle.kernel.proofs.steps.lock.Reads as lock-reads
+use Rattle.kernel.proofs.waits.lock.Reads as lock-reads
 use Rattle.kernel.proofs.steps.mutex.Reads as mutex-reads
 use Rattle.kernel.proofs.steps.outcome.Reads as outcome-reads
-use Rattle.kernel.proofs.steps.pend.Reads as pend-reads
-use Rattle.kernel.proofs.steps.post.Reads as post-reads
+use Rattle.kernel.proofs.waits.pend.Reads as pend-reads
+use Rattle.kernel.proofs.waits.post.Reads as post-reads
 use Rattle.kernel.proofs.steps.sem.Reads as sem-reads
-use Rattle.kernel.proofs.steps.sleep.Reads as sleep-reads
+use Rattle.kernel.proofs.waits.sleep.Reads as sleep-reads
 use Rattle.kernel.proofs.steps.start.Reads as start-reads
 use Rattle.kernel.proofs.steps.task.Reads as task-reads
 use Rattle.kernel.proofs.steps.tick.Reads as tick-reads
-use Rattle.kernel.proofs.steps.unlock.Reads as unlock-reads
+use Rattle.kernel.proofs.waits.unlock.Reads as unlock-reads
 use Rattle.kernel.proofs.steps.yield_now.Reads as yield-now-reads
 
--- src/api.rt:64:25
 enum-known-x : tie.Need-enum-known-x
 enum-known-x c = search needs
 
--- src/api.rt:64:39
 task-requires : tie.Need-task-requires
 task-requires c κs = search needs
 
--- src/api.rt:65:26
 enum-known-x-2 : tie.Need-enum-known-x-2
 enum-known-x-2 c = search needs
 
--- src/api.rt:65:36
 mutex-requires : tie.Need-mutex-requires
 mutex-requires c κs = search needs
 
--- src/api.rt:66:24
 enum-known-x-3 : tie.Need-enum-known-x-3
 enum-known-x-3 c = search needs
 
--- src/api.rt:66:44
 sem-requires : tie.Need-sem-requires
 sem-requires c κs = search needs
 
--- src/api.rt:67:27
 enum-told : tie.Need-enum-told
 enum-told c = search needs
 
--- src/api.rt:67:27
 start-requires : tie.Need-start-requires
 start-requires c κs = search needs
 
--- src/api.rt:68:25
 enum-known-x-4 : tie.Need-enum-known-x-4
 enum-known-x-4 c = search needs
 
--- src/api.rt:68:42
 lock-requires : tie.Need-lock-requires
 lock-requires c κs = search needs
 
--- src/api.rt:69:27
 enum-known-x-5 : tie.Need-enum-known-x-5
 enum-known-x-5 c = search needs
 
--- src/api.rt:69:38
 unlock-requires : tie.Need-unlock-requires
 unlock-requires c κs = search needs
 
--- src/api.rt:70:25
 enum-known-x-6 : tie.Need-enum-known-x-6
 enum-known-x-6 c = search needs
 
--- src/api.rt:70:46
 pend-requires : tie.Need-pend-requires
 pend-requires c κs = search needs
 
--- src/api.rt:71:25
 enum-known-x-7 : tie.Need-enum-known-x-7
 enum-known-x-7 c = search needs
 
--- src/api.rt:71:40
 post-requires : tie.Need-post-requires
 post-requires c κs = λ h. c .before .before .before .pre _ h
 
--- src/api.rt:72:26
 enum-known-x-8 : tie.Need-enum-known-x-8
 enum-known-x-8 c = search needs
 
--- src/api.rt:72:41
 flush-requires : tie.Need-flush-requires
 flush-requires c κs = search needs
 
--- src/api.rt:73:26
 enum-known-x-9 : tie.Need-enum-known-x-9
 enum-known-x-9 c = search needs
 
--- src/api.rt:73:36
 sleep-requires : tie.Need-sleep-requires
 sleep-requires c κs = search needs
 
--- src/api.rt:74:27
 enum-told-2 : tie.Need-enum-told-2
 enum-told-2 c = search needs
 
--- src/api.rt:74:27
 yield-now-requires : tie.Need-yield-now-requires
 yield-now-requires c κs = search needs
 
--- src/api.rt:75:26
 enum-told-3 : tie.Need-enum-told-3
 enum-told-3 c = search needs
 
--- src/api.rt:75:26
 hold-requires : tie.Need-hold-requires
 hold-requires c κs = search needs
 
--- src/api.rt:76:26
 enum-told-4 : tie.Need-enum-told-4
 enum-told-4 c = search needs
 
--- src/api.rt:76:26
 free-requires : tie.Need-free-requires
 free-requires c κs = search needs
 
--- src/api.rt:77:26
 enum-told-5 : tie.Need-enum-told-5
 enum-told-5 c = search needs
 
--- src/api.rt:77:26
 tick-requires : tie.Need-tick-requires
 tick-requires c κs = search needs
 
--- src/api.rt:78:26
 enum-known-x-10 : tie.Need-enum-known-x-10
 enum-known-x-10 c = search needs
 
--- src/api.rt:78:36
 level-requires : tie.Need-level-requires
 level-requires c κs = search needs
 
--- src/api.rt:79:28
 enum-known-x-11 : tie.Need-enum-known-x-11
 enum-known-x-11 c = search needs
 
--- src/api.rt:79:38
 outcome-requires : tie.Need-outcome-requires
 outcome-requires c κs = search needs
 
--- src/api.rt:60:1
 returns : tie.Need-returns
 unfolding machineStep
 returns c = rw (c .before .before .x .given .1) (c .task .ensures)
 
--- src/api.rt:60:1
 returns-2 : tie.Need-returns-2
 unfolding machineStep
 returns-2 c = rw (c .before .before .x2 .given .1) (c .mutex .ensures)
 
--- src/api.rt:60:1
 returns-3 : tie.Need-returns-3
 unfolding machineStep
 returns-3 c = rw (c .before .before .x3 .given .1) (c .sem .ensures)
 
--- src/api.rt:60:1
 returns-4 : tie.Need-returns-4
 unfolding machineStep
 returns-4 c = rw (c .before .enum-told .given .1) (c .start .ensures)
 
--- src/api.rt:60:1
 returns-5 : tie.Need-returns-5
 unfolding machineStep
 returns-5 c = rw (c .before .before .x4 .given .1) (c .lock .ensures)
 
--- src/api.rt:60:1
 returns-6 : tie.Need-returns-6
 unfolding machineStep
 returns-6 c = rw (c .before .before .x5 .given .1) (c .unlock .ensures)
 
--- src/api.rt:60:1
 returns-7 : tie.Need-returns-7
 unfolding machineStep
 returns-7 c = rw (c .before .before .x6 .given .1) (c .pend .ensures)
 
--- src/api.rt:60:1
 returns-8 : tie.Need-returns-8
 unfolding machineStep
 returns-8 c = rw (c .before .before .x7 .given .1) (c .post .ensures)
 
--- src/api.rt:60:1
 returns-9 : tie.Need-returns-9
 unfolding machineStep
 returns-9 c = rw (c .before .before .x8 .given .1) (c .flush .ensures)
 
--- src/api.rt:60:1
 returns-10 : tie.Need-returns-10
 unfolding machineStep
 returns-10 c = rw (c .before .before .x9 .given .1) (c .sleep .ensures)
 
--- src/api.rt:60:1
 returns-11 : tie.Need-returns-11
 unfolding machineStep
 returns-11 c = rw (c .before .enum-told2 .given .1) (c .yield-now .ensures)
 
--- src/api.rt:60:1
 returns-12 : tie.Need-returns-12
 unfolding machineStep
 returns-12 c = rw (c .before .enum-told3 .given .1) (c .hold .ensures)
 
--- src/api.rt:60:1
 returns-13 : tie.Need-returns-13
 unfolding machineStep
 returns-13 c = rw (c .before .enum-told4 .given .1) (c .free .ensures)
 
--- src/api.rt:60:1
 returns-14 : tie.Need-returns-14
 unfolding machineStep
 returns-14 c = rw (c .before .enum-told5 .given .1) (c .tick .ensures)
 
--- src/api.rt:60:1
 returns-15 : tie.Need-returns-15
 unfolding machineStep
 returns-15 c = rw (c .before .before .x10 .given .1) (c .level .ensures)
 
--- src/api.rt:60:1
 returns-16 : tie.Need-returns-16
 unfolding machineStep
 returns-16 c = rw (c .before .before .x11 .given .1) (c .outcome .ensures)

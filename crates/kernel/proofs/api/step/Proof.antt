@@ -12,24 +12,20 @@ use Rattle.kernel.proofs.api.step.Lts as lts
 use Rattle.kernel.proofs.api.perform.Reads as perform-reads
 use Rattle.kernel.proofs.api.tested.Reads as tested-reads
 
--- src/api.rt:87:8
 tested-requires : tie.Need-tested-requires
 tested-requires c κs = search needs
 
--- src/api.rt:88:9
 perform-requires : tie.Need-perform-requires
 perform-requires c κs =
     let a = c .before .before .args in
     sound-counts (a .s) (c .before .tested .ensures .1) (sym (c .before .tested .ensures .0) ∙ c .if1 .taken)
 
--- src/api.rt:88:9
 returns : tie.Need-returns
 returns c =
     let a = c .before .before .before .args in
     let t = c .before .before .tested .ensures in
     c .perform .ensures ∙ sound-step (a .s) (t .1) (sym (t .0) ∙ c .before .if1 .taken) (a .x)
 
--- src/api.rt:84:1
 returns-2 : tie.Need-returns-2
 unfolding stepOf stays idOf
 returns-2 c = rw (sym (c .before .tested .ensures .0) ∙ c .if1 .left)

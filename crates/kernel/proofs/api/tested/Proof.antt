@@ -9,11 +9,9 @@ use Rattle.kernel.proofs.api.tested.Reads as reads
 use Rattle.kernel.proofs.api.tested.Lts as lts
 use Rattle.kernel.proofs.sound.check.Reads as check-reads
 
--- src/api.rt:49:5
 check-requires : tie.Need-check-requires
 check-requires c κs = search needs
 
--- src/api.rt:46:1
 returns : tie.Need-returns
 returns c =
     let T : Typed (c .before .args .s) = record {

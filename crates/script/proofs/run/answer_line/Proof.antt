@@ -1,6 +1,6 @@
 use borrow.Author.Needs.{needs}
 -- `answer_line`: the step that was read, or 14.
-use mathlib.Core.Path.{_≡_, refl, ap, sym, _∙_}
+use mathlib.Core.Path.{sym, _∙_}
 use Rattle.script.specs.LineRunLaws.{read-made, read-none}
 use Rattle.script.proofs.run.answer_line.Statement.{statement}
 use Rattle.script.proofs.run.answer_line.Tie as tie
@@ -8,33 +8,26 @@ use Rattle.script.proofs.run.answer_line.Reads as reads
 use Rattle.script.proofs.run.answer_line.Lts as lts
 use Rattle.kernel.proofs.step.Reads as step-reads
 use Rattle.script.proofs.read.read_line.Reads as read-line-reads
-use Rattle.script.proofs.run.stopped.Reads as stopped-reads
+use Rattle.kernel.proofs.stopped.Reads as stopped-reads
 
--- src/run.rt:70:9
 read-line-requires : tie.Need-read-line-requires
 read-line-requires c κs = search needs
 
--- src/run.rt:71:23
 enum-known-reading : tie.Need-enum-known-reading
 enum-known-reading c = search needs
 
--- src/run.rt:72:9
 enum-told : tie.Need-enum-told
 enum-told c = search needs
 
--- src/run.rt:72:9
 stopped-requires : tie.Need-stopped-requires
 stopped-requires c κs = search needs
 
--- src/run.rt:72:9
 returns : tie.Need-returns
 returns c = c .stopped .ensures ∙ sym (read-none _ _ (sym (c .before .before .before .read-line .ensures) ∙ c .before .enum-told .given .1))
 
--- src/run.rt:74:5
 step-requires : tie.Need-step-requires
 step-requires c κs = search needs
 
--- src/run.rt:67:1
 returns-2 : tie.Need-returns-2
 returns-2 c = c .step .ensures ∙ sym (read-made _ _ _ (sym (c .before .before .before .before .read-line .ensures) ∙ c .before .before .reading .given .1))
 

@@ -1,5 +1,5 @@
 -- `run_header`: by the first line and by the room for its log line.
-use mathlib.Core.Path.{_≡_, ap, sym, _∙_}
+use mathlib.Core.Path.{ap, sym, _∙_}
 use Rattle.text.specs.Place.{putAnswer, putBytes}
 use Rattle.script.specs.Ascii.{ascii}
 use Rattle.script.specs.LogLine.{headerBytes}
@@ -14,31 +14,24 @@ use Rattle.script.proofs.log.write_bad.Reads as write-bad-reads
 use Rattle.script.proofs.log.write_header.Reads as write-header-reads
 use Rattle.script.proofs.read.same.Reads as same-reads
 
--- src/run.rt:138:25
 slice-aggregate-same : tie.Need-slice-aggregate-same
 slice-aggregate-same c = search needs
 
--- src/run.rt:138:8
 same-requires : tie.Need-same-requires
 same-requires c κs = search needs
 
--- src/run.rt:139:28
 write-header-requires : tie.Need-write-header-requires
 write-header-requires c κs = search needs
 
--- src/run.rt:139:23
 enum-known-n : tie.Need-enum-known-n
 enum-known-n c = search needs
 
--- src/run.rt:140:13
 enum-told : tie.Need-enum-told
 enum-told c = search needs
 
--- src/run.rt:140:13
 same-length : tie.Need-same-length
 same-length c = search needs
 
--- src/run.rt:140:13
 returns : tie.Need-returns
 unfolding memoryHead headerBytes ascii
 returns c =
@@ -48,11 +41,9 @@ returns c =
     let put = ap (putAnswer (a .log .now) 0) (h .0) ∙ sym (w .ensures .0) ∙ c .enum-told .given .1 in
     (sym (headed-full (a .line .now) (a .log .now) put), w .ensures .1 ∙ ap (putBytes (a .log .now) 0) (sym (h .0)))
 
--- src/run.rt:145:9
 same-length-2 : tie.Need-same-length-2
 same-length-2 c = search needs
 
--- src/run.rt:145:9
 returns-2 : tie.Need-returns-2
 unfolding memoryHead headerBytes ascii
 returns-2 c =
@@ -62,23 +53,18 @@ returns-2 c =
     let put = ap (putAnswer (a .log .now) 0) (h .0) ∙ sym (w .ensures .0) ∙ c .before .n .given .1 in
     (sym (headed-next (a .line .now) (a .log .now) _ put ∙ (λ i. record { stage = h .1 i; written = c .before .n .given .0 .0 })), w .ensures .1 ∙ ap (putBytes (a .log .now) 0) (sym (h .0)))
 
--- src/run.rt:150:24
 write-bad-requires : tie.Need-write-bad-requires
 write-bad-requires c κs = search needs
 
--- src/run.rt:150:19
 enum-known-n-2 : tie.Need-enum-known-n-2
 enum-known-n-2 c = search needs
 
--- src/run.rt:151:9
 enum-told-2 : tie.Need-enum-told-2
 enum-told-2 c = search needs
 
--- src/run.rt:151:9
 same-length-3 : tie.Need-same-length-3
 same-length-3 c = search needs
 
--- src/run.rt:151:9
 returns-3 : tie.Need-returns-3
 unfolding memoryHead headerBytes ascii
 returns-3 c =
@@ -88,11 +74,9 @@ returns-3 c =
     let put = ap (putAnswer (a .log .now) 0) (h .0) ∙ sym (w .ensures .0) ∙ c .enum-told2 .given .1 in
     (sym (headed-full (a .line .now) (a .log .now) put), w .ensures .1 ∙ ap (putBytes (a .log .now) 0) (sym (h .0)))
 
--- src/run.rt:134:1
 same-length-4 : tie.Need-same-length-4
 same-length-4 c = search needs
 
--- src/run.rt:134:1
 returns-4 : tie.Need-returns-4
 unfolding memoryHead headerBytes ascii
 returns-4 c =

@@ -1,5 +1,5 @@
 -- `run_line`: by the answer's case and by the room for its log line.
-use mathlib.Core.Path.{_≡_, ap, sym, _∙_}
+use mathlib.Core.Path.{ap, sym, _∙_}
 use Rattle.text.specs.Place.{putAnswer, putBytes}
 use Rattle.kernel.specs.StepRecord.{numberOf, valueOf, runOf}
 use Rattle.script.specs.LineRun.{lineFor, reported, ranLine, memoryLine}
@@ -14,39 +14,30 @@ use Rattle.script.proofs.run.answer_line.Reads as answer-line-reads
 use Rattle.script.proofs.run.without_room.Reads as without-room-reads
 use Rattle.script.proofs.run.write_answer.Reads as write-answer-reads
 
--- src/run.rt:106:9
 answer-line-requires : tie.Need-answer-line-requires
 answer-line-requires c κs = search needs
 
--- src/run.rt:109:28
 enum-known-a : tie.Need-enum-known-a
 enum-known-a c = search needs
 
--- src/run.rt:111:35
 enum-told : tie.Need-enum-told
 enum-told c = search needs
 
--- src/run.rt:111:22
 write-answer-requires : tie.Need-write-answer-requires
 write-answer-requires c κs = search needs
 
--- src/run.rt:112:23
 enum-known-n : tie.Need-enum-known-n
 enum-known-n c = search needs
 
--- src/run.rt:117:26
 enum-told-2 : tie.Need-enum-told-2
 enum-told-2 c = search needs
 
--- src/run.rt:117:26
 without-room-requires : tie.Need-without-room-requires
 without-room-requires c κs = search needs
 
--- src/run.rt:111:9
 same-length : tie.Need-same-length
 same-length c = search needs
 
--- src/run.rt:111:9
 returns : tie.Need-returns
 unfolding ranLine memoryLine
 returns c =
@@ -56,11 +47,9 @@ returns c =
     let put = sym (w .ensures .0) ∙ c .before .n .given .1 in
     (sym (reported-next (a .s) (o .result) (a .log .now) _ put) ∙ ap (λ p. reported (a .s) p (a .log .now)) (o .ensures), w .ensures .1 ∙ ap (λ p. putBytes (a .log .now) 0 (lineFor (p .answer))) (o .ensures))
 
--- src/run.rt:111:9
 same-length-2 : tie.Need-same-length-2
 same-length-2 c = search needs
 
--- src/run.rt:111:9
 returns-2 : tie.Need-returns-2
 unfolding ranLine memoryLine
 returns-2 c =
@@ -70,27 +59,21 @@ returns-2 c =
     let put = sym (w .ensures .0) ∙ c .before .enum-told2 .given .1 in
     (c .without-room .ensures ∙ sym (reported-full (a .s) (o .result) (a .log .now) put) ∙ ap (λ p. reported (a .s) p (a .log .now)) (o .ensures), w .ensures .1 ∙ ap (λ p. putBytes (a .log .now) 0 (lineFor (p .answer))) (o .ensures))
 
--- src/run.rt:121:11
 write-line-requires : tie.Need-write-line-requires
 write-line-requires c κs = search needs
 
--- src/run.rt:122:19
 enum-known-n-2 : tie.Need-enum-known-n-2
 enum-known-n-2 c = search needs
 
--- src/run.rt:127:22
 enum-told-3 : tie.Need-enum-told-3
 enum-told-3 c = search needs
 
--- src/run.rt:127:22
 without-room-requires-2 : tie.Need-without-room-requires-2
 without-room-requires-2 c κs = search needs
 
--- src/run.rt:102:1
 same-length-3 : tie.Need-same-length-3
 same-length-3 c = search needs
 
--- src/run.rt:102:1
 returns-3 : tie.Need-returns-3
 unfolding ranLine memoryLine numberOf valueOf runOf
 returns-3 c =
@@ -101,11 +84,9 @@ returns-3 c =
     let put = ap (λ b. putAnswer (a .log .now) 0 (lineFor b)) is ∙ sym (w .ensures .0) ∙ c .before .n2 .given .1 in
     ((λ i. record { state = o .result .state; answer = sym is i; written = c .before .n2 .given .0 .0 }) ∙ sym (reported-next (a .s) (o .result) (a .log .now) _ put) ∙ ap (λ p. reported (a .s) p (a .log .now)) (o .ensures), w .ensures .1 ∙ ap (λ b. putBytes (a .log .now) 0 (lineFor b)) (sym is) ∙ ap (λ p. putBytes (a .log .now) 0 (lineFor (p .answer))) (o .ensures))
 
--- src/run.rt:102:1
 same-length-4 : tie.Need-same-length-4
 same-length-4 c = search needs
 
--- src/run.rt:102:1
 returns-4 : tie.Need-returns-4
 unfolding ranLine memoryLine numberOf valueOf runOf
 returns-4 c =

@@ -7,13 +7,11 @@ use Rattle.script.proofs.run.without_room.Statement.{statement}
 use Rattle.script.proofs.run.without_room.Tie as tie
 use Rattle.script.proofs.run.without_room.Reads as reads
 use Rattle.script.proofs.run.without_room.Lts as lts
-use Rattle.script.proofs.run.stopped.Reads as stopped-reads
+use Rattle.kernel.proofs.stopped.Reads as stopped-reads
 
--- src/run.rt:92:9
 stopped-requires : tie.Need-stopped-requires
 stopped-requires c κs = search needs
 
--- src/run.rt:89:1
 returns : tie.Need-returns
 unfolding stays
 returns c = ap (λ o. ranWith o 0) (c .before .stopped .ensures)

@@ -1,5 +1,4 @@
 -- `write_answer`: by the answer's case.
-use mathlib.Core.Path.{sym}
 use Rattle.kernel.specs.StepRecord.{numberOf, valueOf, runOf}
 use borrow.Author.Needs.{needs}
 use Rattle.script.proofs.run.write_answer.Statement.{statement}
@@ -8,36 +7,28 @@ use Rattle.script.proofs.run.write_answer.Reads as reads
 use Rattle.script.proofs.run.write_answer.Lts as lts
 use Rattle.script.proofs.log.write_line.Reads as write-line-reads
 
--- src/run.rt:83:28
 enum-known-a : tie.Need-enum-known-a
 enum-known-a c = search needs
 
--- src/run.rt:83:52
 write-line-requires : tie.Need-write-line-requires
 write-line-requires c κs = search needs
 
--- src/run.rt:84:27
 enum-known-a-2 : tie.Need-enum-known-a-2
 enum-known-a-2 c = search needs
 
--- src/run.rt:84:51
 write-line-requires-2 : tie.Need-write-line-requires-2
 write-line-requires-2 c κs = search needs
 
--- src/run.rt:78:1
 same-length : tie.Need-same-length
 same-length c = search needs
 
--- src/run.rt:78:1
 returns : tie.Need-returns
 unfolding numberOf valueOf runOf
 returns c = rw (c .before .before .before .before .before .a .given .1) (c .before .before .write-line .ensures)
 
--- src/run.rt:78:1
 same-length-2 : tie.Need-same-length-2
 same-length-2 c = search needs
 
--- src/run.rt:78:1
 returns-2 : tie.Need-returns-2
 unfolding numberOf valueOf runOf
 returns-2 c = rw (c .before .before .before .before .before .a2 .given .1) (c .before .before .write-line2 .ensures)

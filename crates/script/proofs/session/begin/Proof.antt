@@ -1,5 +1,4 @@
 -- `begin`: the fresh record.
-use mathlib.Core.Path.{_≡_, ap}
 use Rattle.script.specs.Session.{freshSession}
 use borrow.Author.Needs.{needs}
 use Rattle.script.proofs.session.begin.Statement.{statement}

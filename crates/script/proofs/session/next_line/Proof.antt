@@ -1,5 +1,4 @@
 -- `next_line`: what was found in the bytes, taken.
-use mathlib.Core.Path.{_≡_, refl, ap, sym, _∙_}
 use Rattle.script.specs.SessionLaws.{turn-same, memory-same}
 use borrow.Author.Needs.{needs}
 use Rattle.script.proofs.session.next_line.Statement.{statement}

@@ -1,5 +1,5 @@
 -- `take`: by where the script stands.
-use mathlib.Core.Path.{_≡_, refl, ap, sym, _∙_}
+use mathlib.Core.Path.{refl}
 use borrow.Author.Tests.{eq-eqb, ne-eqb}
 use Rattle.script.specs.Session.{taken, takenMemory}
 use borrow.Author.Needs.{needs}

@@ -1,5 +1,5 @@
 -- `take_found`: by what was found.
-use mathlib.Core.Path.{_≡_, refl, ap, sym, _∙_}
+use mathlib.Core.Path.{refl, ap, _∙_}
 use Rattle.script.specs.Session.{taken, takenMemory, foundTaken, foundMemory}
 use Rattle.script.specs.SessionLaws.{nothingb, line-taken, line-memory}
 use borrow.Author.Needs.{needs}

@@ -1,5 +1,5 @@
 -- `take_last`: by what was left, and by where the script stands.
-use mathlib.Core.Path.{_≡_, refl, ap, sym, _∙_}
+use mathlib.Core.Path.{refl, ap, _∙_}
 use mathlib.Core.List.{[]}
 use Rattle.text.specs.Feed.{eventsOf}
 use Rattle.script.specs.Session.{foundTaken, foundMemory, lineIn}

@@ -1,0 +1,34 @@
+use mathlib.Core.Path.{subst, ap, _∙_}
+use borrow.Author.Needs.{needs}
+use Rattle.kernel.specs.declared.Out.{Out}
+use Rattle.firmware.specs.Packed.{Carries}
+use Rattle.firmware.proofs.by_value.cungkalisa_step_by_value.Statement.{statement}
+use Rattle.firmware.proofs.by_value.cungkalisa_step_by_value.Tie as tie
+use Rattle.firmware.proofs.by_value.cungkalisa_step_by_value.Reads as reads
+use Rattle.firmware.proofs.by_value.cungkalisa_step_by_value.Lts as lts
+use Rattle.firmware.proofs.by_value.code_of.Reads as code-of-reads
+use Rattle.firmware.proofs.by_value.made.Reads as made-reads
+use Rattle.firmware.proofs.by_value.state_of.Reads as state-of-reads
+
+-- src/by_value.rt:37:9
+made-requires : tie.Need-made-requires
+made-requires c κs = search needs
+
+-- src/by_value.rt:38:9
+state-of-requires : tie.Need-state-of-requires
+state-of-requires c κs = search needs
+
+-- src/by_value.rt:39:9
+code-of-requires : tie.Need-code-of-requires
+code-of-requires c κs = search needs
+
+-- src/by_value.rt:33:1
+returns : tie.Need-returns
+returns c = (
+  subst (λ (p : Out). Carries (c .code-of .result) (p .answer)) (c .before .before .made .ensures) (c .code-of .ensures),
+  c .before .state-of .ensures ∙ ap (λ (p : Out). p .state) (c .before .before .made .ensures),
+)
+
+pub cungkalisa-step-by-value-spec : {M : Type 1} → statement M
+cungkalisa-step-by-value-spec =
+    tie.close (tie.spec made-requires state-of-requires code-of-requires returns)

@@ -1,0 +1,24 @@
+use mathlib.Core.Path.{ap, _∙_}
+use Rattle.firmware.specs.Call.{callOf}
+use borrow.Author.Needs.{needs}
+use Rattle.firmware.proofs.by_value.made.Statement.{statement}
+use Rattle.firmware.proofs.by_value.made.Tie as tie
+use Rattle.firmware.proofs.by_value.made.Reads as reads
+use Rattle.firmware.proofs.by_value.made.Lts as lts
+use Rattle.firmware.proofs.calls.call.Reads as call-reads
+use Rattle.firmware.proofs.calls.request_of.Reads as request-of-reads
+
+-- src/by_value.rt:15:20
+request-of-requires : tie.Need-request-of-requires
+request-of-requires c κs = search needs
+
+-- src/by_value.rt:15:5
+call-requires : tie.Need-call-requires
+call-requires c κs = search needs
+
+-- src/by_value.rt:12:1
+returns : tie.Need-returns
+returns c = c .call .ensures ∙ ap (callOf (c .before .before .args .s)) (c .before .request-of .ensures)
+
+pub made-spec : {M : Type 1} → statement M
+made-spec = tie.close (tie.spec request-of-requires call-requires returns)
