@@ -8,9 +8,9 @@ use std::path::Path;
 use std::process::{Command, Stdio};
 use std::time::{Duration, Instant};
 
-/// How many lines a script has after set-up, and how often each program runs on it.
+/// How many lines a script has after set-up, and how often each program runs on it, in turn with the other.
 const LINES: usize = 200_000;
-const TIMES: usize = 5;
+const TURNS: usize = 9;
 
 pub fn table(program: &str, plain: &str, folder: &Path) -> io::Result<()> {
     println!("| load | tasks | ratio | program, lines a second | plain, lines a second |");
@@ -25,8 +25,11 @@ pub fn table(program: &str, plain: &str, folder: &Path) -> io::Result<()> {
             }
             let script_file = folder.join("script.txt");
             fs::write(&script_file, script)?;
-            let a = quickest(program, &script_file, &folder.join("program.log"))?;
-            let b = quickest(plain, &script_file, &folder.join("plain.log"))?;
+            let (mut a, mut b) = (Duration::MAX, Duration::MAX);
+            for _ in 0..TURNS {
+                a = a.min(run(program, &script_file, &folder.join("program.log"))?);
+                b = b.min(run(plain, &script_file, &folder.join("plain.log"))?);
+            }
             if fs::read(folder.join("program.log"))? != fs::read(folder.join("plain.log"))? {
                 return Err(Error::other(format!("{load}, {tasks} tasks: the logs differ")));
             }
@@ -38,18 +41,15 @@ pub fn table(program: &str, plain: &str, folder: &Path) -> io::Result<()> {
     Ok(())
 }
 
-/// The quickest of several runs, the start of the process included.
-fn quickest(program: &str, script: &Path, log: &Path) -> io::Result<Duration> {
-    let mut best = Duration::MAX;
-    for _ in 0..TIMES {
-        let (input, output) = (File::open(script)?, File::create(log)?);
-        let start = Instant::now();
-        let status =
-            Command::new(program).stdin(Stdio::from(input)).stdout(Stdio::from(output)).status()?;
-        best = best.min(start.elapsed());
-        if !status.success() {
-            return Err(Error::other(format!("{program} ended with {status}")));
-        }
+/// How long one run takes, the start of the process included.
+fn run(program: &str, script: &Path, log: &Path) -> io::Result<Duration> {
+    let (input, output) = (File::open(script)?, File::create(log)?);
+    let start = Instant::now();
+    let status =
+        Command::new(program).stdin(Stdio::from(input)).stdout(Stdio::from(output)).status()?;
+    let time = start.elapsed();
+    if !status.success() {
+        return Err(Error::other(format!("{program} ended with {status}")));
     }
-    Ok(best)
+    Ok(time)
 }
