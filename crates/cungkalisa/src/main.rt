@@ -1,10 +1,10 @@
 // Replays a script: standard input to standard output. All that matters is in the library `script`.
+use arrive::LONGEST;
 use libc::STDIN_FILENO;
 use libc::STDOUT_FILENO;
 use script::run::OVER;
 use script::session;
 use script::session::Session;
-use text::arrive::LONGEST;
 use text::cut;
 
 // How many bytes of the script are read at a time. A line takes one byte at least and its log line at most

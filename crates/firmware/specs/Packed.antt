@@ -1,8 +1,8 @@
 -- An answer in one number of 64 bits: the answer's number in bits 0 to 7, the task to run in 8 to 15, the value in 32 to 63.
 use mathlib.Core.Path.{_≡_}
 use Prim.Native.Nat.{ℕ, _+_, _*_, _/_, _%_}
-use Rattle.kernel.specs.StepRecord.{numberOf, valueOf, runOf}
-use Rattle.kernel.specs.declared.Answer.{Answer}  -- keep
+use Rattle.record.specs.StepRecord.{numberOf, valueOf, runOf}
+use Rattle.record.specs.declared.Answer.{Answer}  -- keep
 
 -- number, value and task to run, side by side
 abbrev pub joined : ℕ → ℕ → ℕ → ℕ

@@ -2,9 +2,9 @@
 use mathlib.Core.Path.{refl}
 use Prim.Native.Nat.{_<_}
 use native.Mathlib.Omega.{arith}
-use Rattle.kernel.specs.StepRecord.{numberOf, runOf}
+use Rattle.record.specs.StepRecord.{numberOf, runOf}
 use Rattle.firmware.specs.Packed.{packed, Carries}
-use Rattle.kernel.specs.declared.Answer.{Answer}  -- keep
+use Rattle.record.specs.declared.Answer.{Answer}  -- keep
 
 pub carries : (x : Answer) → numberOf x < 256 → runOf x < 256 → Carries (packed x) x
 carries x n r = (refl, omega arith, omega arith, omega arith)

@@ -1,7 +1,7 @@
 // An answer in one number, and its parts out of it.
 ghost use mathlib.Core.Path.{_≡_};
 ghost use Rattle.firmware.specs.Packed.{joined, numberIn, runIn, valueIn, Carries};
-use kernel::Answer;
+use record::Answer;
 
 // How far apart the parts stand: the number in bits 0 to 7, the task to run in 8 to 15, the value in 32 to 63.
 const BYTE: u64 = 256;

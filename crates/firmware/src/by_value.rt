@@ -5,8 +5,8 @@ ghost use Rattle.firmware.specs.Packed.{Carries};
 use crate::Stepped;
 use crate::answers;
 use crate::calls;
-use kernel::Out;
-use kernel::State;
+use record::Out;
+use record::State;
 
 // The step of a code, with its answer in parts.
 pub fn made(s: State, code: u32, a: u32, b: u32) -> Out

@@ -2,9 +2,9 @@
 ghost use mathlib.Core.Path.{_≡_};
 ghost use Rattle.firmware.specs.Call.{requestOf, callOf};
 use crate::Asked;
-use kernel::Out;
-use kernel::Request;
-use kernel::State;
+use record::Out;
+use record::Request;
+use record::State;
 
 // The request of a code; a step takes as many of the numbers as it has, and ignores the rest.
 pub fn request_of(code: u32, a: u32, b: u32) -> Asked

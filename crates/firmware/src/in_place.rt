@@ -1,18 +1,18 @@
 // The record changed where it lies: each function takes it out whole, has the work done by value, and stores the result.
 ghost use mathlib.Core.Path.{_≡_};
-ghost use Rattle.kernel.specs.SoundRecord.{soundOf};
-ghost use Rattle.kernel.specs.DemandRecord.{freshRecord};
+ghost use Rattle.record.specs.SoundRecord.{soundOf};
+ghost use Rattle.record.specs.DemandRecord.{freshRecord};
 ghost use Rattle.firmware.specs.Call.{requestOf, callOf};
 ghost use Rattle.firmware.specs.Packed.{Carries};
 use crate::by_value;
-use kernel::State;
+use record::State;
 
 // The fresh record, whatever stood there.
 #[no_mangle]
 pub extern "C" fn cungkalisa_fresh(s: &mut State)
     ensures { λ _. ⌜ now (s .exit) ≡ freshRecord ⌝ }
 {
-    let first = kernel::fresh();
+    let first = record::fresh();
     *s = first;
 }
 
@@ -22,7 +22,7 @@ pub extern "C" fn cungkalisa_is_sound(s: &State) -> bool
     ensures { λ r. ⌜ r ≡ soundOf (now (s .entry)) ⌝ }
 {
     let t = *s;
-    kernel::is_sound(t)
+    sound::is_sound(t)
 }
 
 // The step of a code, made on the record where it lies; the answer in one number.

@@ -17,13 +17,13 @@ pub use in_place::cungkalisa_step;
 
 // What a step's code and its two numbers ask for.
 pub enum Asked {
-    Step { request: kernel::Request },
+    Step { request: record::Request },
     Nothing,
 }
 
 // What comes of a step by value: the record after it, and the answer in one number.
 #[repr(C)]
 pub struct Stepped {
-    pub state: kernel::State,
+    pub state: record::State,
     pub answer: u64,
 }

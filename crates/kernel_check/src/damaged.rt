@@ -2,15 +2,15 @@
 use crate::edges;
 use crate::records;
 use crate::show;
-use kernel::MUTEXES;
-use kernel::Mutexes;
-use kernel::Request;
-use kernel::SEMAPHORES;
-use kernel::Semaphores;
-use kernel::State;
-use kernel::TASKS;
-use kernel::Tasks;
 use queues::Queue;
+use record::MUTEXES;
+use record::Mutexes;
+use record::Request;
+use record::SEMAPHORES;
+use record::Semaphores;
+use record::State;
+use record::TASKS;
+use record::Tasks;
 
 // A tick on the record: the label, the answer, and whether the record stayed.
 fn tried(label: &[u8], s: State) {
@@ -47,7 +47,7 @@ fn set_up() -> State {
 
 pub fn sound_ones() {
     show::text(b"records\n");
-    tried(b"fresh", kernel::fresh());
+    tried(b"fresh", record::fresh());
     tried(b"set-up", set_up());
     tried(b"started", base());
 }
@@ -293,7 +293,7 @@ pub fn set_up_phases() {
     r = s;
     r.started = 1;
     tried(b"started with nobody running", r);
-    r = kernel::fresh();
+    r = record::fresh();
     r.started = 1;
     r.hold = 1;
     tried(b"hold with nobody running", r);

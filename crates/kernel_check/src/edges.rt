@@ -1,7 +1,7 @@
 // The edges that document 01 wants run.
 use crate::show;
-use kernel::Request;
-use kernel::State;
+use record::Request;
+use record::State;
 
 // One step, its answer on a line of its own.
 pub fn go(s: State, x: Request) -> State {
@@ -22,7 +22,7 @@ pub fn quiet(s: State, x: Request) -> State {
 
 pub fn made(priorities: [u32; 3], kind: u32) -> State {
     let a = quiet(
-        kernel::fresh(),
+        record::fresh(),
         Request::Task {
             priority: priorities[0],
         },
@@ -53,7 +53,7 @@ pub fn made(priorities: [u32; 3], kind: u32) -> State {
 // The whole session of document 01.
 pub fn session() {
     show::text(b"session\n");
-    let a = go(kernel::fresh(), Request::Task { priority: 5 });
+    let a = go(record::fresh(), Request::Task { priority: 5 });
     let b = go(a, Request::Task { priority: 3 });
     let c = go(b, Request::Task { priority: 1 });
     let d = go(c, Request::Mutex { kind: 1 });

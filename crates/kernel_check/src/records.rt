@@ -1,13 +1,13 @@
 // Are two records the same in every field?
-use kernel::MAX_TASKS;
-use kernel::MUTEXES;
-use kernel::Mutexes;
-use kernel::SEMAPHORES;
-use kernel::Semaphores;
-use kernel::State;
-use kernel::TASKS;
-use kernel::Tasks;
 use queues::Queue;
+use record::MAX_TASKS;
+use record::MUTEXES;
+use record::Mutexes;
+use record::SEMAPHORES;
+use record::Semaphores;
+use record::State;
+use record::TASKS;
+use record::Tasks;
 
 fn same_few(a: [u8; MUTEXES], b: [u8; MUTEXES]) -> bool {
     for i in 0..MUTEXES {

@@ -1,6 +1,6 @@
 // Writes to standard output.
-use kernel::Answer;
 use libc::STDOUT_FILENO;
+use record::Answer;
 
 pub fn text(s: &[u8]) {
     io::write_all(STDOUT_FILENO, s);
@@ -19,7 +19,7 @@ fn fields(number_: u8, value: u32, run: u8) {
     text(b" ");
     number(value as u64);
     text(b" ");
-    if run == kernel::NONE {
+    if run == record::NONE {
         text(b"-");
         return;
     }

@@ -8,3 +8,4 @@ pub mod CountLaws
 pub mod OrderLaws
 pub mod TableLaws
 pub mod FirstLaws
+pub mod FillLaws

@@ -11,7 +11,7 @@ use borrow.Author.Tests.{leb-true, leb-false, ltb-true, ltb-false}
 use Rattle.text.specs.CutLaws.{upTo-end}
 use Rattle.text.specs.Lines.{lf, lines, lineFrom, nextLine}
 use Rattle.text.specs.LinesLaws.{next-end, lines-next, lines-none}
-use Rattle.text.specs.Tests.{which}
+use Rattle.lists.specs.TestLaws.{which}
 use Rattle.reader.specs.Place.{endedAt}
 
 module _ (text : List ℕ) (at : ℕ) where

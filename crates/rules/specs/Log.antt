@@ -5,7 +5,7 @@ use mathlib.Core.Option.{Option, none, some}
 use Prim.Native.Nat.{ℕ}
 use lib.Dec.{leb}
 use lib.ListN.{length, drop}
-use Rattle.text.specs.Decimal.{decimal}
+use Rattle.decimal.specs.Decimal.{decimal}
 use Rattle.rules.specs.State.{State}
 use Rattle.rules.specs.Step.{Step}
 use Rattle.rules.specs.Answer.{Answer, stopped, step}

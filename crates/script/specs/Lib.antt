@@ -1,20 +1,8 @@
 -- Definitions first, then the laws of them.
-pub mod Ascii
-pub mod Form
-pub mod Reading
-pub mod LogLine
-pub mod Written
-pub mod Examples
 pub mod LineRun
 pub mod WholeLog
 pub mod Session
 pub mod Pieces
-pub mod SameLaws
-pub mod FormLaws
-pub mod LineLaws
-pub mod WrittenLaws
-pub mod PutLaws
-pub mod LogLineLaws
 pub mod LineRunLaws
 pub mod WholeLogLaws
 pub mod SessionLaws

@@ -6,13 +6,13 @@ use mathlib.Core.Option.{Option, none, some}
 use lib.ListN.{length}
 use Rattle.text.specs.Place.{room, putBytes}
 use Rattle.rules.specs.Step.{Step}
-use Rattle.kernel.specs.StepRecord.{numberOf, valueOf, runOf, stays, stepOf}
-use Rattle.kernel.specs.DemandRecord.{requestFor, standingIn}
-use Rattle.kernel.specs.declared.State.{State}
-use Rattle.kernel.specs.declared.Out.{Out}
-use Rattle.kernel.specs.declared.Answer.{Answer}
-use Rattle.script.specs.Form.{sameBytes, stepOn}
-use Rattle.script.specs.LogLine.{lineBytes, headerBytes, logBytes, badBytes}
+use Rattle.record.specs.StepRecord.{numberOf, valueOf, runOf, stays, stepOf}
+use Rattle.record.specs.DemandRecord.{requestFor, standingIn}
+use Rattle.record.specs.declared.State.{State}
+use Rattle.record.specs.declared.Out.{Out}
+use Rattle.record.specs.declared.Answer.{Answer}
+use Rattle.syntax.specs.Form.{sameBytes, stepOn}
+use Rattle.syntax.specs.LogLine.{lineBytes, headerBytes, logBytes, badBytes}
 use Rattle.script.specs.declared.run.Ran.{Ran}
 use Rattle.script.specs.declared.run.Headed.{Headed}
 

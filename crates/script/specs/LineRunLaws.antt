@@ -9,8 +9,8 @@ use native.Mathlib.Omega.{arith}
 use lib.Dec.{leb}
 use lib.ListN.{length, length-append}
 use Rattle.lists.specs.TestLaws.{which, and-r}
-use Rattle.text.specs.Decimal.{decimal}
-use Rattle.text.specs.DecimalLaws.{decimal-length}
+use Rattle.decimal.specs.Decimal.{decimal}
+use Rattle.decimal.specs.DecimalLaws.{decimal-length}
 use Rattle.text.specs.Place.{room, putAnswer}
 use Rattle.text.specs.declared.place.Put.the-variants.{Next, Full}
 use Rattle.rules.specs.Step.{Step}
@@ -18,19 +18,19 @@ use Rattle.rules.specs.Log.{tab, lf, runField, logLine}
 use Rattle.walks.specs.Walk.{taskAt}
 use Rattle.rules.specs.Answer.{standing, malformed}
 use Rattle.rules.specs.Sound.{soundb}
-use Rattle.kernel.specs.Record.{view}
-use Rattle.kernel.specs.SoundRecord.{soundOf}
-use Rattle.kernel.specs.GoodRecord.{Typed}
-use Rattle.kernel.specs.SoundPackLaws.{sound-pack}
-use Rattle.kernel.specs.StepRecord.{answerFor, outFor, stays, stepOf}
-use Rattle.kernel.specs.DemandRecord.{requestFor, readOut, standingIn, inMemory, callRecord}
-use Rattle.kernel.specs.declared.State.{State}
-use Rattle.kernel.specs.declared.Out.{Out}
-use Rattle.kernel.specs.declared.Request.{Request}
-use Rattle.script.specs.Form.{sameBytes, stepOn}
-use Rattle.script.specs.LogLine.{lineBytes, headerBytes, logBytes, badBytes}
-use Rattle.script.specs.Reading.{readingFor}
-use Rattle.script.specs.declared.read.Reading.the-variants.{Made, Malformed}
+use Rattle.record.specs.Record.{view}
+use Rattle.record.specs.SoundRecord.{soundOf}
+use Rattle.record.specs.GoodRecord.{Typed}
+use Rattle.record.specs.SoundPackLaws.{sound-pack}
+use Rattle.record.specs.StepRecord.{answerFor, outFor, stays, stepOf}
+use Rattle.record.specs.DemandRecord.{requestFor, readOut, standingIn, inMemory, callRecord}
+use Rattle.record.specs.declared.State.{State}
+use Rattle.record.specs.declared.Out.{Out}
+use Rattle.record.specs.declared.Request.{Request}
+use Rattle.syntax.specs.Form.{sameBytes, stepOn}
+use Rattle.syntax.specs.LogLine.{lineBytes, headerBytes, logBytes, badBytes}
+use Rattle.syntax.specs.Reading.{readingFor}
+use Rattle.syntax.specs.declared.read.Reading.the-variants.{Made, Malformed}
 use Rattle.script.specs.LineRun.{awaiting, running, over, answered, lineFor, ranWith, reported, ranLine, headLog, headStage, headed}
 use Rattle.script.specs.Pieces.{lineRoom}
 use Rattle.script.specs.declared.run.Ran.{Ran}

@@ -10,27 +10,27 @@ use lib.Dec.{eqb, leb}
 use lib.ListN.{length}
 use borrow.Author.Tests.{eqb-true, leb-false, lt-leb}
 use Rattle.lists.specs.TestLaws.{which, by-test}
-use Rattle.text.specs.Arrive.{Event, Line, Long, Begun, Held, grown, events, marked}
-use Rattle.text.specs.Calls.{pieceCalls, allHanded}
-use Rattle.text.specs.CallsLaws.{calls-right, handed-lines}
+use Rattle.arrive.specs.Arrive.{Event, Line, Long, Begun, Held, grown, events, marked}
+use Rattle.arrive.specs.Calls.{pieceCalls, allHanded}
+use Rattle.arrive.specs.CallsLaws.{calls-right, handed-lines}
 use Rattle.text.specs.Cut.{pieces}
 use Rattle.text.specs.Fields.{fields}
-use Rattle.text.specs.Feed.{lastFound, eventsOf, begunOf}
+use Rattle.arrive.specs.Feed.{lastFound, eventsOf, begunOf}
 use Rattle.text.specs.Lines.{lf, lines}
-use Rattle.kernel.specs.DemandRecord.{freshRecord}
-use Rattle.kernel.specs.declared.State.{State}
-use Rattle.script.specs.Ascii.{ascii}
-use Rattle.script.specs.Form.{longest, words, sameBytes, formOf, numbersOf, madeFrom, stepIn, stepOn}
-use Rattle.script.specs.LogLine.{headerBytes, logBytes, badBytes}
+use Rattle.record.specs.DemandRecord.{freshRecord}
+use Rattle.record.specs.declared.State.{State}
+use Rattle.syntax.specs.Ascii.{ascii}
+use Rattle.syntax.specs.Form.{longest, words, sameBytes, formOf, numbersOf, madeFrom, stepIn, stepOn}
+use Rattle.syntax.specs.LogLine.{headerBytes, logBytes, badBytes}
 use Rattle.script.specs.LineRun.{awaiting, running, over, answered, lineFor, headLog, headStage}
 use Rattle.script.specs.WholeLog.{logFrom, logOf, wholeLog}
 use Rattle.script.specs.Session.{lineIn, takeAll, through, pieceRun, lastEvents, leftEvents, endRun, freshSession, begins, movedTo}
 use Rattle.script.specs.Pieces.{Piece, lineRoom, AllRoomy, more-roomy, written, piecesLog}
-use Rattle.text.specs.declared.arrive.Found.{Found}
-use Rattle.text.specs.declared.arrive.Found.the-variants as found
+use Rattle.arrive.specs.declared.Found.{Found}
+use Rattle.arrive.specs.declared.Found.the-variants as found
 use Rattle.script.specs.SessionLaws.{one-left}
 use Rattle.script.specs.RoomLaws.{lineLog, lineState, lineStage, eventsLog, eventsState, eventsStage, events-stand, written-after, events-room}
-use Rattle.script.specs.SameLaws.{same-length}
+use Rattle.syntax.specs.SameLaws.{same-length}
 use Rattle.script.specs.declared.session.Session.{Session}
 
 -- a piece has at most as many lines' ends as bytes

@@ -10,13 +10,13 @@ use lib.ListN.{length, take, drop, take-append-drop, length-append, length-drop}
 use lib.Seq.{length-take-le, drop-drop, drop-at}
 use borrow.Author.Tests.{le-leb}
 use Rattle.lists.specs.TestLaws.{which, by-test}
-use Rattle.text.specs.Arrive.{Event}
+use Rattle.arrive.specs.Arrive.{Event}
 use Rattle.text.specs.Place.{room, putBytes, laid}
 use Rattle.text.specs.PlaceLaws.{put-laid, length-put, take-laid}
-use Rattle.kernel.specs.declared.State.{State}
-use Rattle.script.specs.Ascii.{ascii}
-use Rattle.script.specs.Form.{sameBytes, stepOn}
-use Rattle.script.specs.LogLine.{headerBytes, logBytes, badBytes}
+use Rattle.record.specs.declared.State.{State}
+use Rattle.syntax.specs.Ascii.{ascii}
+use Rattle.syntax.specs.Form.{sameBytes, stepOn}
+use Rattle.syntax.specs.LogLine.{headerBytes, logBytes, badBytes}
 use Rattle.script.specs.LineRun.{awaiting, running, answered, lineFor, reported, ranLine, memoryLine, headLog, headStage, headed, memoryHead}
 use Rattle.script.specs.LineRunLaws.{line-room}
 use Rattle.script.specs.Session.{taken, takenMemory, Stand, stood, takeLine, lineIn, takeAll}

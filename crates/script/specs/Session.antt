@@ -4,12 +4,12 @@ use mathlib.Core.List.{List, [], _∷_, _++_}
 use mathlib.Core.Bool.{cond}
 use lib.Dec.{eqb}
 use lib.ListN.{length, take, drop}
-use Rattle.text.specs.Arrive.{Event, Line, Long}
-use Rattle.text.specs.Calls.{Calls, calls}
-use Rattle.text.specs.Feed.{lastFound, eventsOf}
-use Rattle.text.specs.declared.arrive.Fed.{Fed}
-use Rattle.kernel.specs.DemandRecord.{freshRecord}
-use Rattle.kernel.specs.declared.State.{State}
+use Rattle.arrive.specs.Arrive.{Event, Line, Long}
+use Rattle.arrive.specs.Calls.{Calls, calls}
+use Rattle.arrive.specs.Feed.{lastFound, eventsOf}
+use Rattle.arrive.specs.declared.Fed.{Fed}
+use Rattle.record.specs.DemandRecord.{freshRecord}
+use Rattle.record.specs.declared.State.{State}
 use Rattle.script.specs.LineRun.{awaiting, running, ranLine, memoryLine, headed, memoryHead}
 use Rattle.script.specs.declared.session.Session.{Session}
 use Rattle.script.specs.declared.session.Moved.{Moved}

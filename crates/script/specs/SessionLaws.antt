@@ -10,16 +10,16 @@ use lib.ListN.{length, take, drop, take-append-drop, length-drop, drop-of-length
 use lib.Seq.{take-all}
 use borrow.Author.Tests.{eq-eqb, ne-eqb, lt-ltb, le-ltb, ltb-true, leb-true}
 use Rattle.lists.specs.TestLaws.{which, clash, by-test}
-use Rattle.text.specs.Arrive.{Event, Line}
-use Rattle.text.specs.Calls.{calls, noCall, behindEvents}
-use Rattle.text.specs.Feed.{fed, carryAfter, lineOf, eventsOf, lastFound}
-use Rattle.text.specs.FeedEvents.{feed-on}
-use Rattle.text.specs.declared.arrive.Fed.{Fed}
-use Rattle.text.specs.declared.arrive.Found.{Found}
-use Rattle.text.specs.declared.arrive.Found.the-variants as found
-use Rattle.kernel.specs.declared.State.{State}
+use Rattle.arrive.specs.Arrive.{Event, Line}
+use Rattle.arrive.specs.Calls.{calls, noCall, behindEvents}
+use Rattle.arrive.specs.Feed.{fed, carryAfter, lineOf, eventsOf, lastFound}
+use Rattle.arrive.specs.FeedEvents.{feed-on}
+use Rattle.arrive.specs.declared.Fed.{Fed}
+use Rattle.arrive.specs.declared.Found.{Found}
+use Rattle.arrive.specs.declared.Found.the-variants as found
+use Rattle.record.specs.declared.State.{State}
 use Rattle.text.specs.Place.{room}
-use Rattle.script.specs.Form.{stepOn}
+use Rattle.syntax.specs.Form.{stepOn}
 use Rattle.script.specs.LineRun.{awaiting, running, answered, lineFor, reported, ranLine, headLog, headed}
 use Rattle.script.specs.Session.{taken, takenMemory, lineIn, foundTaken, foundMemory, turnWith, turned, Stand, stood, takeLine, takeAll, along, through, begins, lastEvents, leftEvents, endRun}
 use Rattle.script.specs.declared.session.Session.{Session}

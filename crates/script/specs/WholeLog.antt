@@ -6,10 +6,10 @@ use mathlib.Core.Option.{Option, none, some}
 use Rattle.text.specs.Lines.{lines}
 use Rattle.rules.specs.Step.{Step}
 use Rattle.rules.specs.Log.{Call}
-use Rattle.kernel.specs.DemandRecord.{freshRecord}
-use Rattle.kernel.specs.declared.State.{State}
-use Rattle.script.specs.Form.{sameBytes, stepOn}
-use Rattle.script.specs.LogLine.{headerBytes, logBytes, badBytes}
+use Rattle.record.specs.DemandRecord.{freshRecord}
+use Rattle.record.specs.declared.State.{State}
+use Rattle.syntax.specs.Form.{sameBytes, stepOn}
+use Rattle.syntax.specs.LogLine.{headerBytes, logBytes, badBytes}
 use Rattle.script.specs.LineRun.{answered, lineFor}
 
 -- "one line for each script line": each is run on the record that the one before it left

@@ -7,11 +7,11 @@ use Prim.Native.Nat.{ℕ}
 use Rattle.rules.specs.Step.{Step}
 use Rattle.rules.specs.History.{told}
 use Rattle.rules.specs.Demand.{Demand}
-use Rattle.kernel.specs.StepRecord.{stays}
-use Rattle.kernel.specs.DemandRecord.{freshRecord, inMemory, callRecord, eventsRecord, afterRecord, answerRecord}
-use Rattle.kernel.specs.DemandRecordLaws.{demand-3-record}
-use Rattle.kernel.specs.declared.State.{State}
-use Rattle.script.specs.Form.{stepOn}
+use Rattle.record.specs.StepRecord.{stays}
+use Rattle.record.specs.DemandRecord.{freshRecord, inMemory, callRecord, eventsRecord, afterRecord, answerRecord}
+use Rattle.record.specs.DemandRecordLaws.{demand-3-record}
+use Rattle.record.specs.declared.State.{State}
+use Rattle.syntax.specs.Form.{stepOn}
 use Rattle.script.specs.LineRun.{answered}
 use Rattle.script.specs.WholeLog.{recordFrom, withCall, callsIn}
 

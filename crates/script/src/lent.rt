@@ -4,7 +4,7 @@ ghost use Rattle.text.specs.Lines.{lineFrom};
 ghost use Rattle.script.specs.LineRun.{ranLine, memoryLine};
 use crate::run;
 use crate::run::Ran;
-use kernel::State;
+use record::State;
 
 // The line that begins at `at`. The next one begins at `reader::next_at(text, at)`, and there is none where `reader::ended_at` says so.
 pub fn run_at(s: State, text: &[u8], at: usize, log: &mut [u8]) -> Ran

@@ -1,16 +1,16 @@
 // One line of a script run on a record, with lent memory for its log line.
 ghost use mathlib.Core.Path.{_≡_};
 ghost use Rattle.text.specs.Place.{putAnswer, putBytes};
-ghost use Rattle.kernel.specs.StepRecord.{stays};
-ghost use Rattle.kernel.specs.DemandRecord.{standingIn};
-ghost use Rattle.script.specs.Form.{stepOn};
+ghost use Rattle.record.specs.StepRecord.{stays};
+ghost use Rattle.record.specs.DemandRecord.{standingIn};
+ghost use Rattle.syntax.specs.Form.{stepOn};
 ghost use Rattle.script.specs.LineRun.{answered, lineFor, ranWith, ranLine, memoryLine, headed, memoryHead};
-use crate::log;
-use crate::read;
-use crate::read::Reading;
-use kernel::Answer;
-use kernel::Out;
-use kernel::State;
+use record::Answer;
+use record::Out;
+use record::State;
+use syntax::log;
+use syntax::read;
+use syntax::read::Reading;
 use text::place::Put;
 
 // Where a script stands: its first line is awaited; steps are run; its first line was bad and nothing more is written.

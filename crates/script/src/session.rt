@@ -1,13 +1,12 @@
 // A script whose bytes arrive in any pieces, run line by line.
 ghost use mathlib.Core.Path.{_≡_};
-ghost use Rattle.text.specs.Feed.{fed, carryAfter, eventsOf};
+ghost use Rattle.arrive.specs.Feed.{fed, carryAfter, eventsOf};
 ghost use Rattle.script.specs.Session.{freshSession, taken, takenMemory, foundTaken, foundMemory, turned, pieceRun, movedTo, leftEvents, endRun, endTo};
 use crate::run;
 use crate::run::AWAITING;
 use crate::run::RUNNING;
-use kernel::State;
-use text::arrive;
-use text::arrive::Found;
+use arrive::Found;
+use record::State;
 
 // What a script has come to: the record, where it stands, and how many bytes of a line the carry holds.
 pub struct Session {
@@ -123,7 +122,7 @@ fn next_line(
 pub fn begin() -> Session
     ensures { λ r. ⌜ r ≡ freshSession ⌝ }
 {
-    let fresh = kernel::fresh();
+    let fresh = record::fresh();
     Session {
         state: fresh,
         stage: AWAITING,

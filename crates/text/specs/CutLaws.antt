@@ -10,7 +10,7 @@ use lib.ListN.{length, getD, take, drop, drop-of-length-le, length-drop}
 use lib.Seq.{drop-cons, drop-drop, take-all}
 use borrow.Author.Tests.{eq-eqb, ne-eqb, eqb-true, eqb-false}
 use Rattle.text.specs.Cut.{upTo, findFrom, Free, onFirst, pieces, behind, joined}
-use Rattle.text.specs.Tests.{which}
+use Rattle.lists.specs.TestLaws.{which}
 
 module _ (b : ℕ) where
   -- one byte at place i

@@ -10,7 +10,7 @@ use lib.ListN.{length, getD, drop, drop-of-length-le}
 use lib.Seq.{drop-cons}
 use borrow.Author.Tests.{eq-eqb, ne-eqb, ltb-true, ltb-false}
 use Rattle.text.specs.Cut.{upTo, Free, findFrom, onFirst, pieces, behind, joined}
-use Rattle.text.specs.Tests.{which}
+use Rattle.lists.specs.TestLaws.{which}
 use Rattle.text.specs.CutLaws.{pieces-next, pieces-last, joined-pieces, pieces-some, pieces-free}
 use Rattle.text.specs.Fields.{tab, fields, fieldAt}
 

@@ -10,7 +10,7 @@ use borrow.Author.Tests.{lt-ltb, le-ltb, ltb-true, ltb-false, eqb-true}
 use Rattle.text.specs.Cut.{upTo, Free, pieces, behind, joined}
 use Rattle.text.specs.CutLaws.{pieces-next, pieces-last, joined-pieces, pieces-some, pieces-free}
 use Rattle.text.specs.Lines.{lf, lines, finalLf, lineFrom, lineEnd, nextLine}
-use Rattle.text.specs.Tests.{which}
+use Rattle.lists.specs.TestLaws.{which}
 
 -- cutting gives back the text
 pub lines-text : (text : List ℕ) → joined lf (lines text) ++ finalLf text ≡ text

@@ -8,7 +8,7 @@ use lib.ListN.{length, getD, take, drop, set, length-append, length-drop}
 use lib.Seq.{length-take-le, take-suc, append-snoc, set-at, take-at}
 use borrow.Author.Tests.{le-leb, lt-leb, leb-true}
 use Rattle.text.specs.Place.{room, putAnswer, putBytes, laid}
-use Rattle.text.specs.Tests.{which}
+use Rattle.lists.specs.TestLaws.{which}
 use Rattle.text.specs.declared.place.Put.the-variants.{Next, Full}
 
 module _ (l : List ℕ) (at : ℕ) (bs : List ℕ) where

@@ -1,7 +1,5 @@
-// Decimal numbers, fields and lines on lent bytes.
-pub mod arrive;
+// Parts, fields and lines of lent bytes, and bytes put into lent memory.
 pub mod cut;
-pub mod decimal;
 pub mod fields;
 pub mod lines;
 pub mod place;

@@ -1,11 +1,11 @@
 // Texts that arrive in pieces, cut into lines with a carry.
 use crate::show;
-use text::arrive::Found;
-use text::arrive::LONGEST;
+use arrive::Found;
+use arrive::LONGEST;
 ghost use Prim.Native.Nat.{_<_};
 
 fn found<'a>(carry: &'a [u8], bytes: &'a [u8], f: Found) {
-    let line = text::arrive::line(carry, bytes, f);
+    let line = arrive::line(carry, bytes, f);
     match f {
         Found::Part { start: _, end: _ } => show::quoted(line),
         Found::Carried(_) => show::quoted(line),
@@ -19,7 +19,7 @@ fn piece(carry: &mut [u8], held: usize, bytes: &[u8]) -> usize {
     let mut now_held = held;
     let mut at = 0;
     while at < bytes.len() {
-        let f = text::arrive::feed(carry, now_held, bytes, at);
+        let f = arrive::feed(carry, now_held, bytes, at);
         let e = f.found;
         found(carry, bytes, e);
         now_held = f.held;
@@ -46,7 +46,7 @@ fn arrive(carry: &mut [u8], s: &[u8], size: usize)
         held = piece(carry, held, text::cut::part(s, at, end));
         at = end;
     }
-    found(carry, s, text::arrive::finish(carry, held));
+    found(carry, s, arrive::finish(carry, held));
     show::end();
 }
 
@@ -111,13 +111,13 @@ fn call(held: usize, at: usize) {
     show::size(held);
     show::size(at);
     show::text(b":");
-    let f = text::arrive::feed(&mut carry, held, bytes, at);
+    let f = arrive::feed(&mut carry, held, bytes, at);
     let e = f.found;
     found(&carry, bytes, e);
     show::size(f.next);
     show::size(f.held);
     show::quoted(&carry);
-    found(&carry, bytes, text::arrive::finish(&carry, held));
+    found(&carry, bytes, arrive::finish(&carry, held));
     show::end();
 }
 

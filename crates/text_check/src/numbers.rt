@@ -1,13 +1,13 @@
 // Numbers read and written, round the powers of ten and of two.
 use crate::show;
-use text::decimal::Number;
+use decimal::Number;
 use text::place::Put;
 
 // v written at place 1 of twelve bytes.
 fn write(v: u32) {
-    show::size(text::decimal::digits(v));
+    show::size(decimal::digits(v));
     let mut out = [b'.'; 12];
-    match text::decimal::write(&mut out, 1, v) {
+    match decimal::write(&mut out, 1, v) {
         Put::Next(n) => show::size(n),
         Put::Full => show::text(b" full"),
     }
@@ -18,7 +18,7 @@ fn write(v: u32) {
 fn parse(s: &[u8]) {
     show::text(b"parse");
     show::quoted(s);
-    match text::decimal::parse(s) {
+    match decimal::parse(s) {
         Number::Value(v) => {
             show::text(b" ");
             show::number(v as u64);
@@ -54,7 +54,7 @@ fn room(at: usize, v: u32) {
     show::text(b" ");
     show::number(v as u64);
     let mut out = [b'.'; 8];
-    match text::decimal::write(&mut out, at, v) {
+    match decimal::write(&mut out, at, v) {
         Put::Next(n) => show::size(n),
         Put::Full => show::text(b" full"),
     }

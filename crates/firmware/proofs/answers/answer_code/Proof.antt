@@ -1,4 +1,4 @@
-use Rattle.kernel.specs.StepRecord.{numberOf, valueOf, runOf}
+use Rattle.record.specs.StepRecord.{numberOf, valueOf, runOf}
 use borrow.Author.Needs.{needs}
 use Rattle.firmware.proofs.answers.answer_code.Statement.{statement}
 use Rattle.firmware.proofs.answers.answer_code.Tie as tie

@@ -33,14 +33,14 @@ use denote.Triple.Spec.{Meets, tripleOf}
 use denote.Triple.Table.{entered, cited}
 use denote.Triple.Walked.{says, Stays, stay-ref, walkOf, AllGo, goes-ref, Walks, ends-at, walked, walk-meets}
 use denote.Triple.Clauses.{ensured, lasts}
-use Rattle.kernel.specs.declared.State.{State}
-use Rattle.kernel.specs.DemandRecord.{freshRecord}
-use Rattle.kernel.proofs.State as T
-use Rattle.kernel.proofs.State.Laws as T′
-use Rattle.kernel.proofs.fresh as g
-use Rattle.kernel.proofs.fresh.Symbol as g-def
-use Rattle.kernel.proofs.fresh.Symbol.{name as #fresh}
-use Rattle.kernel.proofs.fresh.Met as g-thm
+use Rattle.record.specs.declared.State.{State}
+use Rattle.record.specs.DemandRecord.{freshRecord}
+use Rattle.record.proofs.State as T
+use Rattle.record.proofs.State.Laws as T′
+use Rattle.record.proofs.fresh as g
+use Rattle.record.proofs.fresh.Symbol as g-def
+use Rattle.record.proofs.fresh.Symbol.{name as #fresh}
+use Rattle.record.proofs.fresh.Met as g-thm
 use Rattle.firmware.proofs.in_place.cungkalisa_fresh.Key.{name as #cungkalisa-fresh}
 use Rattle.firmware.proofs.in_place.cungkalisa_fresh as f
 use Rattle.firmware.proofs.in_place.cungkalisa_fresh.Statement as stated
@@ -126,4 +126,4 @@ cungkalisa-fresh-spec 𝓤 H 𝓜 𝓖 𝓡 =
     entered 𝓤 H (tripleOf 𝓤 H (𝓖 .A) f.signature (f.spec 𝓤 H (𝓖 .A) (𝓜 .mem) (𝓡 .run)))
     (tables 𝓤 H 𝓜 𝓡 code.env .C) (tables 𝓤 H 𝓜 𝓡 code.env .Λ) #cungkalisa-fresh code.function (code.unfolded 𝓤 H 𝓜 𝓡)
     (meets 𝓤 H (𝓖 .A) (givenOf 𝓤 H 𝓜 𝓖) (𝓜 .mem) (𝓡 .run) (tablesOf 𝓤 H 𝓜 (tables 𝓤 H 𝓜 𝓡 code.env))
-    (cited 𝓤 H (Fresh 𝓤 H (𝓖 .A) (𝓜 .mem) (𝓡 .run)) 𝓜 𝓡 code.env #fresh g-def.routine code.calls-kernel·fresh (g-thm.met 𝓤 H 𝓜 𝓖 𝓡)))
+    (cited 𝓤 H (Fresh 𝓤 H (𝓖 .A) (𝓜 .mem) (𝓡 .run)) 𝓜 𝓡 code.env #fresh g-def.routine code.calls-record·fresh (g-thm.met 𝓤 H 𝓜 𝓖 𝓡)))

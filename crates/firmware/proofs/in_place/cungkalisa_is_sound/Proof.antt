@@ -35,14 +35,15 @@ use denote.Triple.Table.{entered, cited}
 use denote.Triple.Walked.{says, Stays, stay-none-ref, walkOf, AllGo, goes-none-ref, Walks, ends-at, walked, walk-meets}
 use denote.Triple.Clauses.{ensured, lasts}
 use denote.Exit.{yes}
-use Rattle.kernel.specs.declared.State.{State}
-use Rattle.kernel.specs.SoundRecord.{soundOf}
-use Rattle.kernel.proofs.State as T
-use Rattle.kernel.proofs.State.Laws as T′
-use Rattle.kernel.proofs.is_sound as g
-use Rattle.kernel.proofs.is_sound.Symbol as g-def
-use Rattle.kernel.proofs.is_sound.Symbol.{name as #is-sound}
-use Rattle.kernel.proofs.is_sound.Met as g-thm
+use Rattle.record.specs.declared.State.{State}
+use Rattle.record.specs.SoundRecord.{soundOf}
+use Rattle.record.specs.GoodRecord.{Typed}
+use Rattle.record.proofs.State as T
+use Rattle.record.proofs.State.Laws as T′
+use Rattle.sound.proofs.is_sound as g
+use Rattle.sound.proofs.is_sound.Symbol as g-def
+use Rattle.sound.proofs.is_sound.Symbol.{name as #is-sound}
+use Rattle.sound.proofs.is_sound.Met as g-thm
 use Rattle.firmware.proofs.in_place.cungkalisa_is_sound.Key.{name as #cungkalisa-is-sound}
 use Rattle.firmware.proofs.in_place.cungkalisa_is_sound as f
 use Rattle.firmware.proofs.in_place.cungkalisa_is_sound.Statement as stated
@@ -62,7 +63,9 @@ module _ {M : Type 1} (𝓤 : URA M) (H : Heap 𝓤) (A : Atoms 𝓤) (at-mem : 
   IsSound = tripleOf 𝓤 H A g.signature (g.spec 𝓤 H A at-mem run)
 
   sound-of : (h : State) (r : Bool) → ent 𝓤 (ensured 𝓤 H A g.ended (g.clauses 𝓤 H A at-mem run) tt (h, tt) tt r) (fact 𝓤 (r ≡ soundOf h))
-  sound-of h r = exE 𝓤 _ (λ ws. snd∗ 𝓤 (sem 𝓤 H A (lasts g.ended tt (h, tt) ws)) (fact 𝓤 (r ≡ soundOf h)))
+  sound-of h r = exE 𝓤 _ (λ ws. via 𝓤 _
+      (snd∗ 𝓤 (sem 𝓤 H A (lasts g.ended tt (h, tt) ws)) (sep 𝓤 (fact 𝓤 (r ≡ soundOf h)) (fact 𝓤 (Typed h))))
+      (fst∗ 𝓤 (fact 𝓤 (r ≡ soundOf h)) (fact 𝓤 (Typed h))))
 
 module _ {M : Type 1} (𝓤 : URA M) (H : Heap 𝓤) (A : Atoms 𝓤) (W : Given 𝓤 H A) (at-mem : Memory → SProp 𝓤) (run : Routine → Fun 𝓤) (κ : Lft) (q : Share) (b o : ℕ) (γ : GName) (h : State) where
   abbrev x : Arg
@@ -128,4 +131,4 @@ cungkalisa-is-sound-spec 𝓤 H 𝓜 𝓖 𝓡 =
     entered 𝓤 H (tripleOf 𝓤 H (𝓖 .A) f.signature (f.spec 𝓤 H (𝓖 .A) (𝓜 .mem) (𝓡 .run)))
     (tables 𝓤 H 𝓜 𝓡 code.env .C) (tables 𝓤 H 𝓜 𝓡 code.env .Λ) #cungkalisa-is-sound code.function (code.unfolded 𝓤 H 𝓜 𝓡)
     (meets 𝓤 H (𝓖 .A) (givenOf 𝓤 H 𝓜 𝓖) (𝓜 .mem) (𝓡 .run) (tablesOf 𝓤 H 𝓜 (tables 𝓤 H 𝓜 𝓡 code.env))
-    (cited 𝓤 H (IsSound 𝓤 H (𝓖 .A) (𝓜 .mem) (𝓡 .run)) 𝓜 𝓡 code.env #is-sound g-def.routine code.calls-kernel·is-sound (g-thm.met 𝓤 H 𝓜 𝓖 𝓡)))
+    (cited 𝓤 H (IsSound 𝓤 H (𝓖 .A) (𝓜 .mem) (𝓡 .run)) 𝓜 𝓡 code.env #is-sound g-def.routine code.calls-sound·is-sound (g-thm.met 𝓤 H 𝓜 𝓖 𝓡)))

@@ -36,14 +36,14 @@ use denote.Triple.Table.{entered, cited}
 use denote.Triple.Walked.{says, Stays, stay-ref, stay-none, walkOf, AllGo, goes-none, goes-ref, Walks, ends-at, walked, walk-meets}
 use denote.Triple.Clauses.{ensured, lasts}
 use denote.Exit.{yes}
-use Rattle.kernel.specs.declared.State.{State}
-use Rattle.kernel.specs.declared.Out.{Out}
+use Rattle.record.specs.declared.State.{State}
+use Rattle.record.specs.declared.Out.{Out}
 use Rattle.firmware.specs.Call.{requestOf, callOf}
 use Rattle.firmware.specs.Packed.{Carries}
-use Rattle.kernel.proofs.Out as O
-use Rattle.kernel.proofs.Out.Laws as O′
-use Rattle.kernel.proofs.State as T
-use Rattle.kernel.proofs.State.Laws as T′
+use Rattle.record.proofs.Out as O
+use Rattle.record.proofs.Out.Laws as O′
+use Rattle.record.proofs.State as T
+use Rattle.record.proofs.State.Laws as T′
 use Rattle.firmware.proofs.by_value.made as g
 use Rattle.firmware.proofs.by_value.made.Symbol as g-def
 use Rattle.firmware.proofs.by_value.made.Symbol.{name as #made}

@@ -1,8 +1,8 @@
 -- `run_header`: by the first line and by the room for its log line.
 use mathlib.Core.Path.{ap, sym, _∙_}
 use Rattle.text.specs.Place.{putAnswer, putBytes}
-use Rattle.script.specs.Ascii.{ascii}
-use Rattle.script.specs.LogLine.{headerBytes}
+use Rattle.syntax.specs.Ascii.{ascii}
+use Rattle.syntax.specs.LogLine.{headerBytes}
 use Rattle.script.specs.LineRun.{memoryHead}
 use Rattle.script.specs.LineRunLaws.{head-good, head-bad, headed-next, headed-full}
 use borrow.Author.Needs.{needs}
@@ -10,9 +10,9 @@ use Rattle.script.proofs.run.run_header.Statement.{statement}
 use Rattle.script.proofs.run.run_header.Tie as tie
 use Rattle.script.proofs.run.run_header.Reads as reads
 use Rattle.script.proofs.run.run_header.Lts as lts
-use Rattle.script.proofs.log.write_bad.Reads as write-bad-reads
-use Rattle.script.proofs.log.write_header.Reads as write-header-reads
-use Rattle.script.proofs.read.same.Reads as same-reads
+use Rattle.syntax.proofs.log.write_bad.Reads as write-bad-reads
+use Rattle.syntax.proofs.log.write_header.Reads as write-header-reads
+use Rattle.syntax.proofs.read.same.Reads as same-reads
 
 slice-aggregate-same : tie.Need-slice-aggregate-same
 slice-aggregate-same c = search needs

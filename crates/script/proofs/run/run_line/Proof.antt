@@ -1,7 +1,7 @@
 -- `run_line`: by the answer's case and by the room for its log line.
 use mathlib.Core.Path.{ap, sym, _∙_}
 use Rattle.text.specs.Place.{putAnswer, putBytes}
-use Rattle.kernel.specs.StepRecord.{numberOf, valueOf, runOf}
+use Rattle.record.specs.StepRecord.{numberOf, valueOf, runOf}
 use Rattle.script.specs.LineRun.{lineFor, reported, ranLine, memoryLine}
 use Rattle.script.specs.LineRunLaws.{reported-next, reported-full}
 use borrow.Author.Needs.{needs}
@@ -9,7 +9,7 @@ use Rattle.script.proofs.run.run_line.Statement.{statement}
 use Rattle.script.proofs.run.run_line.Tie as tie
 use Rattle.script.proofs.run.run_line.Reads as reads
 use Rattle.script.proofs.run.run_line.Lts as lts
-use Rattle.script.proofs.log.write_line.Reads as write-line-reads
+use Rattle.syntax.proofs.log.write_line.Reads as write-line-reads
 use Rattle.script.proofs.run.answer_line.Reads as answer-line-reads
 use Rattle.script.proofs.run.without_room.Reads as without-room-reads
 use Rattle.script.proofs.run.write_answer.Reads as write-answer-reads

@@ -1,7 +1,7 @@
 -- `without_room`: the answer of `stopped`, and the record as it was.
 use mathlib.Core.Path.{ap}
 use Rattle.script.specs.LineRun.{ranWith}
-use Rattle.kernel.specs.StepRecord.{stays}
+use Rattle.record.specs.StepRecord.{stays}
 use borrow.Author.Needs.{needs}
 use Rattle.script.proofs.run.without_room.Statement.{statement}
 use Rattle.script.proofs.run.without_room.Tie as tie

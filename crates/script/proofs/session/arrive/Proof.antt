@@ -6,7 +6,7 @@ use native.Mathlib.Omega.{arith}
 use mathlib.Core.List.{_++_}
 use lib.ListN.{length, take, drop}
 use borrow.Rule.Slice.PartMut.{same-len-mid}
-use Rattle.text.specs.Feed.{fed, carryAfter, eventsOf}
+use Rattle.arrive.specs.Feed.{fed, carryAfter, eventsOf}
 use Rattle.script.specs.Session.{foundMemory, turned, Stand, movedTo, Through, through, pieceRun}
 use Rattle.script.specs.SessionLaws.{rest-part, rest-back, turn-on, turn-short, turn-again, through-end}
 use Rattle.script.proofs.session.arrive.Statement.{statement}

@@ -5,7 +5,7 @@ use Rattle.script.proofs.session.begin.Statement.{statement}
 use Rattle.script.proofs.session.begin.Tie as tie
 use Rattle.script.proofs.session.begin.Reads as reads
 use Rattle.script.proofs.session.begin.Lts as lts
-use Rattle.kernel.proofs.fresh.Reads as fresh-reads
+use Rattle.record.proofs.fresh.Reads as fresh-reads
 
 -- src/session.rt:112:9
 fresh-requires : tie.Need-fresh-requires

@@ -1,7 +1,7 @@
 -- `take_last`: by what was left, and by where the script stands.
 use mathlib.Core.Path.{refl, ap, _∙_}
 use mathlib.Core.List.{[]}
-use Rattle.text.specs.Feed.{eventsOf}
+use Rattle.arrive.specs.Feed.{eventsOf}
 use Rattle.script.specs.Session.{foundTaken, foundMemory, lineIn}
 use Rattle.script.specs.SessionLaws.{left-none, left-over, left-line}
 use borrow.Author.Needs.{needs}
@@ -11,7 +11,7 @@ use Rattle.script.proofs.session.take_last.Reads as reads
 use Rattle.script.proofs.session.take_last.Lts as lts
 use Rattle.script.proofs.session.take.Reads as take-reads
 use Rattle.script.proofs.session.take_found.Reads as take-found-reads
-use Rattle.text.proofs.arrive.finish.Reads as finish-reads
+use Rattle.arrive.proofs.finish.Reads as finish-reads
 
 -- src/session.rt:154:9
 slice-aggregate-none : tie.Need-slice-aggregate-none

@@ -1,0 +1,52 @@
+-- Bytes that arrive in any pieces, cut into lines: the machine that takes one byte at a time.
+use Prim.Native.Nat.{ℕ}
+use mathlib.Core.List.{List, [], _∷_, _++_}
+use mathlib.Core.Bool.{cond}
+use lib.Dec.{eqb, leb, ltb}
+use lib.ListN.{length}
+use Rattle.text.specs.Lines.{lf}
+
+-- what is handed on: a line without its LF, or that a line was longer than the maximum
+pub data Event : Type 0 where
+  Line : List ℕ → Event
+  Long : Event
+
+-- the line that has begun: its bytes so far, or that they are over the maximum already
+pub data Begun : Type 0 where
+  Held : List ℕ → Begun
+  Over : Begun
+
+-- one byte more of the line
+unfoldable pub grown : ℕ → Begun → ℕ → Begun
+grown most (Held b) c = cond (ltb (length b) most) (Held (b ++ (c ∷ []))) Over
+grown most Over c = Over
+
+-- the line as it is handed on where it ends
+abbrev pub ended : Begun → Event
+ended (Held b) = Line b
+ended Over = Long
+
+-- what is handed on while a text arrives: at each LF the line that ends there, and a new one begins
+unfoldable pub events : ℕ → Begun → List ℕ → List Event
+events most s [] = []
+events most s (c ∷ cs) = cond (eqb c lf) (ended s ∷ events most (Held []) cs) (events most (grown most s c) cs)
+
+-- the line that has begun when it has arrived
+unfoldable pub after : ℕ → Begun → List ℕ → Begun
+after most s [] = s
+after most s (c ∷ cs) = cond (eqb c lf) (after most (Held []) cs) (after most (grown most s c) cs)
+
+-- what is handed on where nothing follows: a last line without LF counts, and nothing follows a final LF
+unfoldable pub finished : Begun → List Event
+finished (Held []) = []
+finished (Held (c ∷ b)) = Line (c ∷ b) ∷ []
+finished Over = Long ∷ []
+
+-- all that is handed on of a text that arrives in pieces
+unfoldable pub arrived : ℕ → Begun → List (List ℕ) → List Event
+arrived most s [] = finished s
+arrived most s (a ∷ rest) = events most s a ++ arrived most (after most s a) rest
+
+-- a line as it is to be handed on: "Lines over 80 bytes without the LF" are over-long at a maximum of 80
+unfoldable pub marked : ℕ → List ℕ → Event
+marked most l = cond (leb (length l) most) (Line l) Long

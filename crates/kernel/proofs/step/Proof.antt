@@ -1,0 +1,33 @@
+-- `step`: on a sound record what the machine answers, which is what the rules answer; else 15.
+use mathlib.Core.Path.{_≡_, sym, _∙_}
+use mathlib.Core.Bool.{true}
+use Rattle.record.specs.SoundRecord.{soundOf}
+use Rattle.record.specs.StepRecord.{stays, stepOf}
+use Rattle.queues.specs.Queue.{idOf}
+use Rattle.steps.specs.MachineLaws.{sound-step}
+use borrow.Author.Needs.{needs}
+use Rattle.kernel.proofs.step.Statement.{statement}
+use Rattle.kernel.proofs.step.Tie as tie
+use Rattle.kernel.proofs.step.Reads as reads
+use Rattle.kernel.proofs.step.Lts as lts
+use Rattle.steps.proofs.perform.Reads as perform-reads
+use Rattle.sound.proofs.is_sound.Reads as is-sound-reads
+
+is-sound-requires : tie.Need-is-sound-requires
+is-sound-requires c κs = search needs
+
+perform-requires : tie.Need-perform-requires
+perform-requires c κs = search needs
+
+returns : tie.Need-returns
+returns c =
+    let a = c .before .before .before .args in
+    let t = c .before .before .is-sound .ensures in
+    c .perform .ensures ∙ sound-step (a .s) (t .1) (sym (t .0) ∙ c .before .if1 .taken) (a .x)
+
+returns-2 : tie.Need-returns-2
+unfolding stepOf stays idOf
+returns-2 c = rw (sym (c .before .is-sound .ensures .0) ∙ c .if1 .left)
+
+pub step-spec : {M : Type 1} → statement M
+step-spec = tie.close (tie.spec is-sound-requires perform-requires returns returns-2)

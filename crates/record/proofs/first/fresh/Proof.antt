@@ -1,0 +1,17 @@
+use mathlib.Core.Path.{refl}
+use Rattle.lists.specs.Table.{pad, filled}
+use Rattle.queues.specs.Queue.{queueOf, idOf}
+use Rattle.rules.specs.State.{fresh}
+use Rattle.record.specs.Record.{packTasks, packMutexes, packSemaphores, pack}
+use Rattle.record.specs.DemandRecord.{freshRecord}
+use Rattle.record.proofs.first.fresh.Statement.{statement}
+use Rattle.record.proofs.first.fresh.Tie as tie
+use Rattle.record.proofs.first.fresh.Reads as reads
+use Rattle.record.proofs.first.fresh.Lts as lts
+
+returns : tie.Need-returns
+unfolding freshRecord fresh pack packTasks packMutexes packSemaphores pad filled queueOf idOf
+returns c = refl
+
+pub fresh-spec : {M : Type 1} → statement M
+fresh-spec = tie.close (tie.spec returns)

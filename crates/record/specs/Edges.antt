@@ -1,0 +1,258 @@
+-- "Both sides of each edge", P1 to P12, and a few more edges, computed over `stepOf`, the definition that `step`'s contract cites: one table, one claim.
+use mathlib.Core.Path.{_≡_, refl}
+use mathlib.Core.List.{List, [], _∷_, _++_, map}
+use mathlib.Core.Option.{Option, none, some}
+use Prim.Native.Nat.{ℕ}
+use Rattle.lists.specs.Test.{_and_, _or_, allb, someb, holds}
+use Rattle.lists.specs.Count.{eqn, occ}
+use Rattle.lists.specs.Order.{keep, upTo, byId, place, insertTail, insertHead, insertAll, stable, ascb, tiesb, firstAt, orElse, firstFrom, before, inside}
+use Rattle.lists.specs.Table.{edit, pad, filled}
+use Rattle.chains.specs.Chain.{walk, endsb}
+use Rattle.chains.specs.Least.{least, leadsTo, leastLeading}
+use Rattle.rules.specs.Levels.{mutexIn, mutexAwaited, andThen, next, lends, levelIn, chainOf, sameAwaited, waitIsFor, waitersOf, bestWaiter}
+use Rattle.rules.specs.Step.{task, start}
+use Rattle.rules.specs.Effect.{ticksOf, callerWaits, lockBy, passOn, pendBy, credit, flushOf, isDue, expiry, outcomeDue, lessOne, age, tickOf, yieldBy, called, effect}
+use Rattle.rules.specs.Settle.{settledReady, meet, dispatch, finish}
+use Rattle.rules.specs.Refusal.{ofCaller, linksFor, refusals, firstRow}
+use Rattle.rules.specs.Sound.{columnsb, sizesb, rangesb, clockb, waitCount, waitingb, placesb, ascendingb, unavailableb, leftb, blockedb, timedb, waitersb, timesb, existsb, ownersb, noRingb, countsb, outcomeb, outcomesb, noneIn, runsb, holdb, urgentTop, urgentb, setUpb, tablesb, soundb}
+use Rattle.rules.specs.Vectors.{Fields}
+use Rattle.queues.specs.Queue.{queueOf, idOf}
+use Rattle.walks.specs.Walk.{taskAt}
+use Rattle.record.specs.Record.{leftIn, waitIn, waitAt, viewTables, view, awaitedKind, awaitedObject, leftCode, kindCode, objectCode, timedCode, dueCode, packTasks, packMutexes, packSemaphores, pack}
+use Rattle.record.specs.SoundRecord.{usedTaskb, unusedTaskb, taskPlaceb, tasksTidyb, mutexPlaceb, mutexesTidyb, semPlaceb, semaphoresTidyb, queueTidyb, tidyb, levelsb, soundOf}
+use Rattle.record.specs.StepRecord.{stepFor, numberOf, valueOf, runOf, answerFor, outFor, stays, stepOf}
+use Rattle.record.specs.DemandRecord.{freshRecord}
+use Rattle.record.specs.declared.State.{State}  -- keep
+use Rattle.record.specs.declared.Request.{Request}  -- keep
+use Rattle.record.specs.declared.Request.the-variants.{Task, Mutex, Sem, Start, Lock, Pend, Post, Flush, Sleep, Yield, Hold, Free, Tick, Level, Outcome}  -- keep
+use Rattle.rules.specs.State.{fresh, withClock, withHold}  -- keep
+use Prim.Native.String.{String}  -- keep
+use Rattle.rules.specs.Answer.{decide, stepSound}  -- keep
+
+-- a request, and the answer's number, value and task to run
+pub record Asked : Type 0 where
+  pub request : Request
+  pub answered : Fields
+
+abbrev pub gets : Request → ℕ → ℕ → Option ℕ → Asked
+gets x k v r = record { request = x; answered = record { number = k; value = v; run = r } }
+
+-- a row: the record to start from, the requests in their order with the answer due to each, and the clock at the end
+pub record Edge : Type 0 where
+  pub name : String
+  pub from : State
+  pub asked : List Asked
+  pub clock : ℕ
+
+abbrev pub edge : String → State → ℕ → List Asked → Edge
+edge name k clock l = record { name = name; from = k; asked = l; clock = clock }
+
+-- answers, and the clock at the end
+pub record Played : Type 0 where
+  pub answers : List Fields
+  pub clock : ℕ
+
+-- what `step` gives: each request is made on the record that the one before it left
+unfoldable pub played : State → List Request → Played
+played k [] = record { answers = []; clock = k .clock }
+played k (x ∷ xs) =
+    let o = stepOf k x in
+    let rest = played (o .state) xs in
+    record { answers = record { number = numberOf (o .answer); value = valueOf (o .answer); run = taskAt (runOf (o .answer)) } ∷ rest .answers; clock = rest .clock }
+
+unfoldable pub givenIn : Edge → Played
+givenIn e = played (e .from) (map (λ a. a .request) (e .asked))
+
+-- what is due
+unfoldable pub dueIn : Edge → Played
+dueIn e = record { answers = map (λ a. a .answered) (e .asked); clock = e .clock }
+
+-- the record of a started state with one task, at some clock and hold depth; that it is sound is seen from the answers: none is 15
+unfoldable pub startedAt : ℕ → ℕ → State
+startedAt clock depth = pack (withHold (withClock ((stepSound ((stepSound fresh (task 5)) .state) start) .state) clock) depth)
+
+-- what P7 and P8 share, mutex 0 of kind k: until task 2 locks mutex 1 for a time t; before, task 0 has the level l
+abbrev nested : ℕ → ℕ → ℕ → List Asked → List Asked
+nested k t l rest =
+    gets (Task 9) 0 0 none ∷
+    gets (Task 5) 0 1 none ∷
+    gets (Task 2) 0 2 none ∷
+    gets (Mutex k) 0 0 none ∷
+    gets (Mutex 1) 0 1 none ∷
+    gets Start 0 0 (some 2) ∷
+    gets (Sleep 2) 1 0 (some 1) ∷
+    gets (Sleep 1) 1 0 (some 0) ∷
+    gets (Lock 0 0) 0 0 (some 0) ∷
+    gets Tick 0 0 (some 1) ∷
+    gets (Lock 1 0) 0 0 (some 1) ∷
+    gets (Lock 0 4294967295) 1 1 (some 0) ∷
+    gets (Level 0) 0 l (some 0) ∷
+    gets (Level 1) 0 5 (some 0) ∷
+    gets Tick 0 0 (some 2) ∷
+    gets (Lock 1 t) 1 2 (some 0) ∷
+    rest
+
+pub edgeTable : List Edge
+edgeTable =
+    -- "fresh, tick: 4"
+    edge "P1" freshRecord 0 (
+    gets Tick 4 0 none ∷
+    []) ∷
+    -- "start with no task: 0, `-`; then yield: 5"
+    edge "P2" freshRecord 0 (
+    gets Start 0 0 none ∷
+    gets Yield 5 0 none ∷
+    []) ∷
+    -- "priority 31: 0; 32: 7"
+    edge "P3" freshRecord 0 (
+    gets (Task 31) 0 0 none ∷
+    gets (Task 32) 7 0 none ∷
+    []) ∷
+    -- "sixteenth task: 0; seventeenth: 8"
+    edge "P4" freshRecord 0 (map (λ i. gets (Task 5) 0 i none) (upTo 16) ++ (
+    gets (Task 5) 8 0 none ∷
+    [])) ∷
+    -- "lock a mutex one owns: 9, also with time 0"
+    edge "P5" freshRecord 0 (
+    gets (Task 5) 0 0 none ∷
+    gets (Mutex 1) 0 0 none ∷
+    gets Start 0 0 (some 0) ∷
+    gets (Lock 0 5) 0 0 (some 0) ∷
+    gets (Lock 0 5) 9 0 (some 0) ∷
+    gets (Lock 0 0) 9 0 (some 0) ∷
+    []) ∷
+    -- "A owns 0; B owns 1 and waits for 0; A locks 1 with time 5: 12, value 1; with time 0: 3"
+    edge "P6" freshRecord 0 (
+    gets (Task 5) 0 0 none ∷
+    gets (Task 5) 0 1 none ∷
+    gets (Mutex 1) 0 0 none ∷
+    gets (Mutex 1) 0 1 none ∷
+    gets Start 0 0 (some 0) ∷
+    gets (Lock 0 0) 0 0 (some 0) ∷
+    gets Yield 0 0 (some 1) ∷
+    gets (Lock 1 0) 0 0 (some 1) ∷
+    gets (Lock 0 4294967295) 1 1 (some 0) ∷
+    gets (Lock 1 5) 12 1 (some 0) ∷
+    gets (Lock 1 0) 3 0 (some 0) ∷
+    []) ∷
+    -- "tasks of priority 9, 5, 2; the first owns inheriting 0, the second owns inheriting 1 and waits for 0, the third locks 1: links 2,
+    -- first's level 2"
+    edge "P7" freshRecord 2 (nested 1 4294967295 5 (
+    gets (Level 0) 0 2 (some 0) ∷
+    gets (Level 1) 0 2 (some 0) ∷
+    [])) ∷
+    -- "as P7 with mutex 0 plain: links 2, first's level 9, second's 2"
+    edge "P8" freshRecord 2 (nested 0 4294967295 9 (
+    gets (Level 0) 0 9 (some 0) ∷
+    gets (Level 1) 0 2 (some 0) ∷
+    [])) ∷
+    -- "clock 4294967294, sleep 3: ends when the clock is 1": at clock 0 it still waits, and at 1 it runs, with outcome 0
+    edge "P9" (startedAt 4294967294 0) 0 (
+    gets (Sleep 3) 1 0 none ∷
+    gets Tick 0 0 none ∷
+    gets Tick 0 0 none ∷
+    gets (Outcome 0) 0 1 none ∷
+    []) ∷
+    edge "P9" (startedAt 4294967294 0) 1 (
+    gets (Sleep 3) 1 0 none ∷
+    gets Tick 0 0 none ∷
+    gets Tick 0 0 none ∷
+    gets Tick 0 0 (some 0) ∷
+    gets (Outcome 0) 0 0 (some 0) ∷
+    []) ∷
+    -- "sem 1 1, start, post: 2"
+    edge "P10" freshRecord 0 (
+    gets (Sem 1 1) 0 0 none ∷
+    gets Start 0 0 none ∷
+    gets (Post 0) 2 0 none ∷
+    []) ∷
+    -- "held, taken mutex: time 5 gives 11, time 0 gives 3"; freed, it waits
+    edge "P11" freshRecord 0 (
+    gets (Task 5) 0 0 none ∷
+    gets (Task 5) 0 1 none ∷
+    gets (Mutex 1) 0 0 none ∷
+    gets Start 0 0 (some 0) ∷
+    gets (Lock 0 0) 0 0 (some 0) ∷
+    gets Yield 0 0 (some 1) ∷
+    gets Hold 0 0 (some 1) ∷
+    gets (Lock 0 5) 11 0 (some 1) ∷
+    gets (Lock 0 0) 3 0 (some 1) ∷
+    gets Free 0 0 (some 1) ∷
+    gets (Lock 0 5) 1 1 (some 0) ∷
+    []) ∷
+    -- "tasks 4, 4, 1: task 2 sleeps 1, task 0 runs, tick, task 2 sleeps again: task 0 runs, not 1"
+    edge "P12" freshRecord 1 (
+    gets (Task 4) 0 0 none ∷
+    gets (Task 4) 0 1 none ∷
+    gets (Task 1) 0 2 none ∷
+    gets Start 0 0 (some 2) ∷
+    gets (Sleep 1) 1 0 (some 0) ∷
+    gets Tick 0 0 (some 2) ∷
+    gets (Sleep 1) 1 0 (some 0) ∷
+    []) ∷
+    -- "every waiter becomes ready with outcome 21; the count stays"
+    edge "flush" freshRecord 0 (
+    gets (Task 3) 0 0 none ∷
+    gets (Task 5) 0 1 none ∷
+    gets (Sem 0 1) 0 0 none ∷
+    gets Start 0 0 (some 0) ∷
+    gets (Pend 0 4294967295) 1 0 (some 1) ∷
+    gets (Outcome 0) 0 1 (some 1) ∷
+    gets (Flush 0) 0 0 (some 0) ∷
+    gets (Outcome 0) 0 21 (some 0) ∷
+    gets (Pend 0 0) 3 0 (some 0) ∷
+    []) ∷
+    -- "outcome 20"; "a waiter timing out lowers every owner up its chain"
+    edge "time-out" freshRecord 4 (nested 1 2 5 (
+    gets Tick 0 0 (some 0) ∷
+    gets (Level 0) 0 2 (some 0) ∷
+    gets (Outcome 2) 0 1 (some 0) ∷
+    gets Tick 0 0 (some 2) ∷
+    gets (Outcome 2) 0 20 (some 2) ∷
+    gets (Level 0) 0 5 (some 2) ∷
+    gets (Level 1) 0 5 (some 2) ∷
+    [])) ∷
+    -- "takes one credit if the count is above 0", "else the count rises by one"
+    edge "count" freshRecord 0 (
+    gets (Task 5) 0 0 none ∷
+    gets (Sem 1 1) 0 0 none ∷
+    gets Start 0 0 (some 0) ∷
+    gets (Pend 0 0) 0 0 (some 0) ∷
+    gets (Pend 0 0) 3 0 (some 0) ∷
+    gets (Post 0) 0 0 (some 0) ∷
+    gets (Post 0) 2 0 (some 0) ∷
+    gets (Pend 0 5) 0 0 (some 0) ∷
+    gets (Pend 0 5) 1 0 none ∷
+    gets (Post 0) 0 0 (some 0) ∷
+    gets (Outcome 0) 0 0 (some 0) ∷
+    gets (Pend 0 0) 3 0 (some 0) ∷
+    []) ∷
+    -- "hold at 255, free at 0"
+    edge "free" (startedAt 0 1) 0 (
+    gets Free 0 0 (some 0) ∷
+    gets Free 13 0 (some 0) ∷
+    []) ∷
+    edge "hold" (startedAt 0 254) 0 (
+    gets Hold 0 0 (some 0) ∷
+    gets Hold 13 0 (some 0) ∷
+    []) ∷
+    -- "t is 1 to 2147483647"
+    edge "time" (startedAt 0 0) 0 (
+    gets (Sleep 0) 7 0 (some 0) ∷
+    gets (Sleep 2147483648) 7 0 (some 0) ∷
+    gets (Sleep 2147483647) 1 0 none ∷
+    []) ∷
+    []
+
+-- `step` gives each row what is due to it; unfolded is all that it is made of, its test of soundness included
+pub edges-hold : map givenIn edgeTable ≡ map dueIn edgeTable
+unfolding edgeTable givenIn dueIn played startedAt freshRecord stepOf soundOf tidyb levelsb tasksTidyb taskPlaceb usedTaskb unusedTaskb mutexesTidyb mutexPlaceb
+    semaphoresTidyb semPlaceb queueTidyb stepFor numberOf valueOf runOf answerFor outFor stays view viewTables waitAt waitIn leftIn pack packTasks
+    packMutexes packSemaphores awaitedKind awaitedObject leftCode kindCode objectCode timedCode dueCode queueOf idOf pad filled
+    _and_ _or_ allb someb holds eqn occ keep upTo byId place insertTail insertHead insertAll stable ascb tiesb
+    firstAt orElse firstFrom before inside edit walk endsb least leadsTo leastLeading mutexIn mutexAwaited andThen next lends levelIn chainOf
+    sameAwaited waitIsFor waitersOf bestWaiter fresh ticksOf callerWaits lockBy passOn pendBy credit flushOf isDue expiry outcomeDue lessOne age
+    tickOf yieldBy called effect settledReady meet dispatch finish ofCaller linksFor refusals firstRow columnsb sizesb rangesb clockb waitCount
+    waitingb placesb ascendingb unavailableb leftb blockedb timedb waitersb timesb existsb ownersb noRingb countsb outcomeb outcomesb noneIn runsb
+    holdb urgentTop urgentb setUpb tablesb soundb decide stepSound
+edges-hold = refl

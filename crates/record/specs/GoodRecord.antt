@@ -1,0 +1,27 @@
+-- What is known of a record: what its types tell, and what soundness adds.
+use mathlib.Core.Path.{_≡_}
+use Prim.Native.Nat.{ℕ, _<_}
+use lib.ListN.{length, getD}
+use Rattle.rules.specs.Sizes.{maxTasks, maxMutexes, maxSemaphores, wordSize}
+use Rattle.queues.specs.Queue.{places}
+use Rattle.record.specs.declared.State.{State}  -- keep
+use Rattle.rules.specs.State.{State as Model}  -- keep
+
+-- what holds of every value of the record's type: arrays have their lengths, and numbers fit
+pub record Typed (k : State) : Type 0 where
+  pub due-length : length (k .tasks .due) ≡ maxTasks
+  pub priority-length : length (k .tasks .priority) ≡ maxTasks
+  pub level-length : length (k .tasks .level) ≡ maxTasks
+  pub outcome-length : length (k .tasks .outcome) ≡ maxTasks
+  pub wait-length : length (k .tasks .wait) ≡ maxTasks
+  pub object-length : length (k .tasks .object) ≡ maxTasks
+  pub timed-length : length (k .tasks .timed) ≡ maxTasks
+  pub kind-length : length (k .mutexes .kind) ≡ maxMutexes
+  pub owner-length : length (k .mutexes .owner) ≡ maxMutexes
+  pub count-length : length (k .semaphores .count) ≡ maxSemaphores
+  pub maximum-length : length (k .semaphores .maximum) ≡ maxSemaphores
+  pub ready-length : length (k .ready .ids) ≡ places
+  pub waiting-length : length (k .waiting .ids) ≡ places
+  pub due-word : (i : ℕ) → getD (k .tasks .due) i 0 < wordSize
+  pub clock-word : k .clock < wordSize
+  pub hold-byte : k .hold < 256

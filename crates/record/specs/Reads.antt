@@ -1,0 +1,49 @@
+-- What stands at a place of the record, with what an unused place holds for a number that is no place, and who leads to whom.
+use mathlib.Core.List.{List}
+use mathlib.Core.Bool.{cond}
+use Prim.Native.Nat.{ℕ, min}
+use lib.Dec.{eqb}
+use lib.ListN.{getD}
+use Rattle.lists.specs.Table.{filled}
+use Rattle.rules.specs.Sizes.{maxTasks, inheriting}
+use Rattle.queues.specs.Queue.{noId}
+use Rattle.walks.specs.Walk.{raised}
+use Rattle.record.specs.Record.{onMutex}
+use Rattle.record.specs.declared.Tasks.{Tasks}  -- keep
+use Rattle.record.specs.declared.Mutexes.{Mutexes}  -- keep
+use Rattle.record.specs.declared.Semaphores.{Semaphores}  -- keep
+use Rattle.queues.specs.declared.Queue.{Queue}  -- keep
+
+-- the clock at which a task's timed wait ends
+abbrev pub dueOf : Tasks → ℕ → ℕ
+dueOf t i = getD (t .due) i 0
+
+-- a mutex's owner and kind
+abbrev pub ownerAt : Mutexes → ℕ → ℕ
+ownerAt m j = getD (m .owner) j noId
+
+abbrev pub kindAt : Mutexes → ℕ → ℕ
+kindAt m j = getD (m .kind) j 0
+
+-- a semaphore's count and maximum
+abbrev pub countAt : Semaphores → ℕ → ℕ
+countAt c j = getD (c .count) j 0
+
+abbrev pub maximumAt : Semaphores → ℕ → ℕ
+maximumAt c j = getD (c .maximum) j 0
+
+-- who stands first in a queue
+abbrev pub firstId : Queue → ℕ
+firstId q = getD (q .ids) 0 0
+
+-- the owner of the mutex for which i waits, mutexes of every kind
+unfoldable pub nextAt : Tasks → Mutexes → ℕ → ℕ
+nextAt t m i = cond (eqb (getD (t .wait) i 0) onMutex) (ownerAt m (getD (t .object) i 0)) noId
+
+-- the owner of the inheriting mutex for which i waits
+unfoldable pub lendsAt : Tasks → Mutexes → ℕ → ℕ
+lendsAt t m i = cond (eqb (getD (t .wait) i 0) onMutex) (cond (eqb (kindAt m (getD (t .object) i 0)) inheriting) (ownerAt m (getD (t .object) i 0)) noId) noId
+
+-- the own priorities, raised along the chains of waits on inheriting mutexes; ViewLaws proves them the levels as defined
+unfoldable pub newLevels : Tasks → Mutexes → List ℕ
+newLevels t m = raised (t .priority) (filled maxTasks (lendsAt t m)) (t .n) (min (t .n) maxTasks)

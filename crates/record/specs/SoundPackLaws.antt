@@ -1,0 +1,289 @@
+-- A sound state of the rules is the view of its packing, and its packing is a sound record.
+use mathlib.Core.Path.{_≡_, refl, ap, sym, _∙_}
+use mathlib.Core.List.{List, [], _∷_, map}
+use mathlib.Core.Bool.{Bool, true, false, cond, not}
+use mathlib.Core.Logic.{inl, inr}
+use mathlib.Core.Option.{Option, none, some}
+use Prim.Native.Nat.{ℕ, suc, _+_, _≤_, _<_}
+use native.Mathlib.Omega.{arith}
+use native.Mathlib.Decide.{decLt}
+use lib.Dec.{ltb, leb, eqb}
+use lib.ListN.{length, getD, List·getD-eq-default, length-map}
+use borrow.Author.Tests.{ltb-false, lt-ltb, le-ltb, le-leb, eq-eqb}
+use Rattle.lists.specs.Test.{_and_, _or_, someb}
+use Rattle.lists.specs.Count.{occ, below, opt}
+use Rattle.lists.specs.Table.{pad, filled}
+use Rattle.lists.specs.TestLaws.{which, by-test, and-l, and-r, true-and, or-l, or-r, true-all, none-some, some-same}
+use Rattle.lists.specs.CountLaws.{occ-opt, in-below, below-le, pigeonhole}
+use Rattle.lists.specs.TableLaws.{length-filled, filled-is, take-pad, length-pad}
+use Rattle.chains.specs.Chain.{on}
+use Rattle.rules.specs.Sizes.{maxTasks, maxMutexes, maxSemaphores, kinds, wordSize}
+use Rattle.rules.specs.Levels.{levelIn}
+use Rattle.rules.specs.Step.{hold}
+use Rattle.rules.specs.Sound.{soundb}
+use Rattle.rules.specs.Invariant.{Left, Timed, Facts, Inv}
+use Rattle.rules.specs.LevelLaws.{wait-out}
+use Rattle.rules.specs.SoundLaws.{sound-inv, inv-sound}
+use Rattle.queues.specs.Queue.{places, noId, queueOf, idOf}
+use Rattle.queues.specs.QueueLaws.{items-queueOf, rest-queueOf}
+use Rattle.walks.specs.Walk.{taskAt}
+use Rattle.walks.specs.WalkLaws.{other-default}
+use Rattle.record.specs.Record.{dueAt, onMutex, onSemaphore, onTime, leftIn, waitIn, waitAt, viewTables, view, awaitedKind, awaitedObject, leftCode, kindCode, objectCode, timedCode, dueCode, packTasks, packMutexes, packSemaphores, pack}
+use Rattle.record.specs.SoundRecord.{usedTaskb, unusedTaskb, taskPlaceb, tasksTidyb, idb, mutexPlaceb, mutexesTidyb, semPlaceb, semaphoresTidyb, queueTidyb, tidyb, levelsb, soundOf}
+use Rattle.record.specs.GoodRecord.{Typed}
+use Rattle.record.specs.PackLaws.{ticks-back, task-back, good-pack}
+use Rattle.record.specs.ReadLaws.{level-out, kind-read, object-read, timed-read, due-read, priority-read, level-read, outcome-read, owner-read, mutex-read, count-read, maximum-read, level-pack}
+use Rattle.record.specs.declared.State.{State}  -- keep
+use Rattle.rules.specs.State.{State as Model, levelOf}  -- keep
+use Rattle.rules.specs.Tables.{Tables, Wait, Awaited, mutexOf, semOf, time, tasks, mutexes, semaphores, priorityOf, outcomeOf, waitOf, ownerOf, kindOf, countOf, maximumOf}  -- keep
+
+-- a time left is below the number of words
+left-word : (a : Awaited) (o : Option ℕ) → Left a o → (n : ℕ) → o ≡ some n → n < wordSize
+left-word a none L n e = none-some refl e
+left-word (mutexOf m) (some k) L n e = omega (arith, L .1, some-same e)
+left-word (semOf m) (some k) L n e = omega (arith, L .1, some-same e)
+left-word time (some k) L n e = omega (arith, L .1, some-same e)
+
+-- a wait is read back from its codes
+module _ (clock : ℕ) (word : clock < wordSize) where
+  left-back : (o : Option ℕ) → ((n : ℕ) → o ≡ some n → n < wordSize) → leftIn (cond (someb o) 1 0) (leftCode clock o) clock ≡ o
+  unfolding leftIn leftCode someb
+  left-back none h = refl
+  left-back (some n) h = ap some (ticks-back clock word n (h n refl))
+
+  wait-back : (w : Option Wait) → Timed w → waitIn (kindCode w) (objectCode w) (leftIn (timedCode w) (dueCode clock w) clock) ≡ w
+  unfolding waitIn kindCode objectCode timedCode dueCode awaitedKind awaitedObject
+  wait-back none T = refl
+  wait-back (some w) T = ap (λ o. waitIn (awaitedKind (w .on)) (awaitedObject (w .on)) o) (left-back (w .left) (left-word (w .on) (w .left) T)) ∙ go (w .on) (w .left)
+    where
+      go : (a : Awaited) (o : Option ℕ) → waitIn (awaitedKind a) (awaitedObject a) o ≡ some (record { on = a; left = o })
+      go (mutexOf m) o = refl
+      go (semOf m) o = refl
+      go time o = refl
+
+  due-small : (w : Option Wait) → dueCode clock w < wordSize
+  unfolding dueCode leftCode
+  due-small none = omega arith
+  due-small (some w) = go (w .left)
+    where
+      go : (o : Option ℕ) → leftCode clock o < wordSize
+      go none = omega arith
+      go (some n) = omega arith
+
+owner-list : (l : List (Option ℕ)) → ((m o : ℕ) → getD l m none ≡ some o → o < maxTasks) → map taskAt (map idOf l) ≡ l
+owner-list [] h = refl
+owner-list (o ∷ l) h = rw (task-back o (h 0), owner-list l (λ m. h (suc m)))
+
+same-tables : (a b : Tables) → a .priorities ≡ b .priorities → a .outcomes ≡ b .outcomes → a .waits ≡ b .waits → a .waiting ≡ b .waiting
+    → a .kinds ≡ b .kinds → a .owners ≡ b .owners → a .counts ≡ b .counts → a .maxima ≡ b .maxima → a ≡ b
+same-tables a b p1 p2 p3 p4 p5 p6 p7 p8 = λ i. record { priorities = p1 i; outcomes = p2 i; waits = p3 i; waiting = p4 i; kinds = p5 i; owners = p6 i; counts = p7 i; maxima = p8 i }
+
+same-model : (a b : Model) → a .tables ≡ b .tables → a .started ≡ b .started → a .clock ≡ b .clock → a .hold ≡ b .hold → a .running ≡ b .running → a .ready ≡ b .ready → a ≡ b
+same-model a b p1 p2 p3 p4 p5 p6 = λ i. record { tables = p1 i; started = p2 i; clock = p3 i; hold = p4 i; running = p5 i; ready = p6 i }
+
+module _ (s : Model) (F : Facts (s .tables)) (word : s .clock < wordSize) where
+  wait-view : (i : ℕ) → waitAt (packTasks (s .tables) (s .clock)) (s .clock) i ≡ waitOf (s .tables) i
+  unfolding waitAt
+  wait-view i = rw (kind-read t c i, object-read t c i, timed-read t c i, due-read t c i) (wait-back c word (waitOf t i) (F .timed i))
+    where
+      t : Tables
+      t = s .tables
+
+      c : ℕ
+      c = s .clock
+
+  waits-view : filled (tasks (s .tables)) (waitAt (packTasks (s .tables) (s .clock)) (s .clock)) ≡ s .tables .waits
+  waits-view = filled-is (tasks (s .tables)) _ none (s .tables .waits) (F .wait-column) (λ i h. wait-view i)
+
+  pub tables-pack : viewTables (pack s) ≡ s .tables
+  unfolding viewTables pack packTasks packMutexes packSemaphores
+  tables-pack = same-tables _ _
+      (take-pad maxTasks 0 (tasks (s .tables)) (s .tables .priorities) refl)
+      (take-pad maxTasks 0 (tasks (s .tables)) (s .tables .outcomes) (F .outcome-column))
+      waits-view
+      (items-queueOf (s .tables .waiting))
+      (take-pad maxMutexes 0 (mutexes (s .tables)) (s .tables .kinds) (F .kind-column))
+      (ap (map taskAt) (take-pad maxMutexes noId (mutexes (s .tables)) (map idOf (s .tables .owners)) (length-map (s .tables .owners) idOf))
+      ∙ owner-list (s .tables .owners) (λ m o e. omega (arith, F .owners m o e, F .few-tasks)))
+      (take-pad maxSemaphores 0 (semaphores (s .tables)) (s .tables .counts) refl)
+      (take-pad maxSemaphores 0 (semaphores (s .tables)) (s .tables .maxima) (F .maximum-column))
+
+flag-back : (b : Bool) → not (eqb (cond b 1 0) 0) ≡ b
+flag-back true = refl
+flag-back false = refl
+
+module _ (s : Model) (I : Inv s) where
+  ids-in : (i : ℕ) → occ i (s .ready) + (occ i (s .tables .waiting) + occ i (opt (s .running))) ≤ below i (tasks (s .tables))
+  ids-in i = omega (arith, I .places i)
+
+  runner-low : (i : ℕ) → s .running ≡ some i → i < maxTasks
+  runner-low i e = omega (arith, I .facts .few-tasks, in-below i (tasks (s .tables)) (omega (arith, ids-in i, occ-opt (s .running) i e)))
+
+  -- what the packing of a sound state stands for is the state
+  pub view-pack : view (pack s) ≡ s
+  unfolding view pack
+  view-pack = same-model _ _ (tables-pack s (I .facts) (I .clock-in)) (flag-back (s .started)) refl refl (task-back (s .running) runner-low) (items-queueOf (s .ready))
+
+  ready-fits : length (s .ready) ≤ maxTasks
+  ready-fits = omega (arith, I .facts .few-tasks, pigeonhole (tasks (s .tables)) (s .ready) (λ y. omega (arith, ids-in y, below-le y (tasks (s .tables)))) (λ y m. in-below y (tasks (s .tables)) (omega (arith, ids-in y))))
+
+  waiting-fits : length (s .tables .waiting) ≤ maxTasks
+  waiting-fits = omega (arith, I .facts .few-tasks, pigeonhole (tasks (s .tables)) (s .tables .waiting) (λ y. omega (arith, ids-in y, below-le y (tasks (s .tables)))) (λ y m. in-below y (tasks (s .tables)) (omega (arith, ids-in y))))
+
+  -- arrays have their lengths and numbers fit
+  pub pack-typed : Typed (pack s)
+  unfolding pack packTasks packMutexes packSemaphores queueOf
+  pack-typed = record {
+    due-length = column (map (dueCode (s .clock)) (t .waits)) (omega (arith, F .few-tasks, F .wait-column, length-map (t .waits) (dueCode (s .clock))));
+    priority-length = column (t .priorities) (F .few-tasks);
+    level-length = column (filled (tasks t) (levelIn t)) (omega (arith, F .few-tasks, length-filled (tasks t) (levelIn t)));
+    outcome-length = column (t .outcomes) (omega (arith, F .few-tasks, F .outcome-column));
+    wait-length = column (map kindCode (t .waits)) (omega (arith, F .few-tasks, F .wait-column, length-map (t .waits) kindCode));
+    object-length = column (map objectCode (t .waits)) (omega (arith, F .few-tasks, F .wait-column, length-map (t .waits) objectCode));
+    timed-length = column (map timedCode (t .waits)) (omega (arith, F .few-tasks, F .wait-column, length-map (t .waits) timedCode));
+    kind-length = length-pad maxMutexes 0 (t .kinds) (omega (arith, F .few-mutexes, F .kind-column));
+    owner-length = length-pad maxMutexes noId (map idOf (t .owners)) (omega (arith, F .few-mutexes, length-map (t .owners) idOf));
+    count-length = length-pad maxSemaphores 0 (t .counts) (F .few-semaphores);
+    maximum-length = length-pad maxSemaphores 0 (t .maxima) (omega (arith, F .few-semaphores, F .maximum-column));
+    ready-length = length-pad places noId (s .ready) ready-fits;
+    waiting-length = length-pad places noId (t .waiting) waiting-fits;
+    due-word = λ i. omega (arith, due-read t (s .clock) i, due-small (s .clock) (I .clock-in) (waitOf t i));
+    clock-word = I .clock-in;
+    hold-byte = omega (arith, I .hold-in);
+  }
+    where
+      t : Tables
+      t = s .tables
+
+      F : Facts (s .tables)
+      F = I .facts
+
+      column : (l : List ℕ) → length l ≤ maxTasks → length (pad maxTasks 0 l) ≡ maxTasks
+      column = length-pad maxTasks 0
+
+-- the codes of a wait keep the record's rules
+used-code : (clock : ℕ) (w : Option Wait)
+    → leb (kindCode w) onTime and (eqb (objectCode w) 0 or eqb (kindCode w) onMutex or eqb (kindCode w) onSemaphore) and leb (timedCode w) 1
+    and (eqb (timedCode w) 0 or not (eqb (kindCode w) 0)) and (eqb (dueCode clock w) 0 or eqb (timedCode w) 1) ≡ true
+unfolding kindCode objectCode timedCode dueCode awaitedKind awaitedObject leftCode someb _and_ _or_
+used-code clock none = refl
+used-code clock (some w) = go (w .on) (w .left)
+  where
+    go : (a : Awaited) (o : Option ℕ)
+        → leb (awaitedKind a) onTime and (eqb (awaitedObject a) 0 or eqb (awaitedKind a) onMutex or eqb (awaitedKind a) onSemaphore) and leb (cond (someb o) 1 0) 1
+        and (eqb (cond (someb o) 1 0) 0 or not (eqb (awaitedKind a) 0)) and (eqb (leftCode clock o) 0 or eqb (cond (someb o) 1 0) 1) ≡ true
+    go (mutexOf m) none = true-and _ _ (or-r (eqb m 0) _ refl) refl
+    go (semOf m) none = true-and _ _ (or-r (eqb m 0) _ refl) refl
+    go time none = refl
+    go (mutexOf m) (some n) = true-and _ _ (or-r (eqb m 0) _ refl) (or-r (eqb (dueAt clock n) 0) _ refl)
+    go (semOf m) (some n) = true-and _ _ (or-r (eqb m 0) _ refl) (or-r (eqb (dueAt clock n) 0) _ refl)
+    go time (some n) = or-r (eqb (dueAt clock n) 0) _ refl
+
+true-id : (o : Option ℕ) → ((i : ℕ) → o ≡ some i → i < maxTasks) → idb (idOf o) ≡ true
+unfolding idOf
+true-id none h = or-r (ltb noId maxTasks) _ refl
+true-id (some i) h = or-l _ _ (lt-ltb i maxTasks (h i refl))
+
+true-flag : (b : Bool) → leb (cond b 1 0) 1 ≡ true
+true-flag true = refl
+true-flag false = refl
+
+-- the packed tables are tidy
+module _ (t : Tables) (F : Facts t) (clock : ℕ) where
+  used-tidy : (i : ℕ) → usedTaskb (packTasks t clock) i ≡ true
+  unfolding usedTaskb
+  used-tidy i = rw (kind-read t clock i, object-read t clock i, timed-read t clock i, due-read t clock i) (used-code clock (waitOf t i))
+
+  unused-tidy : (i : ℕ) → tasks t ≤ i → unusedTaskb (packTasks t clock) i ≡ true
+  unfolding unusedTaskb kindCode objectCode timedCode dueCode _and_
+  unused-tidy i h = rw (
+    priority-read t clock i ∙ List·getD-eq-default (t .priorities) 0 h,
+    level-read t clock i ∙ level-out t i h,
+    outcome-read t clock i ∙ List·getD-eq-default (t .outcomes) 0 short,
+    kind-read t clock i ∙ ap kindCode nobody,
+    object-read t clock i ∙ ap objectCode nobody,
+    timed-read t clock i ∙ ap timedCode nobody,
+    due-read t clock i ∙ ap (dueCode clock) nobody,
+  ) refl
+    where
+      short : length (t .outcomes) ≤ i
+      short = omega (arith, F .outcome-column)
+
+      nobody : waitOf t i ≡ none
+      nobody = wait-out t (F .wait-column) i h
+
+  tasks-tidy : tasksTidyb (packTasks t clock) ≡ true
+  unfolding tasksTidyb taskPlaceb packTasks
+  tasks-tidy = true-and _ _ (le-leb _ _ (F .few-tasks)) (true-all maxTasks _ (λ i h. elim (decLt i (tasks t)) [
+    | yes q ↦ rw (lt-ltb i (tasks t) q) (used-tidy i)
+    | no q ↦ rw (le-ltb i (tasks t) (omega arith)) (unused-tidy i (omega arith))
+  ]))
+
+  owner-zero : (j : ℕ) → j < maxMutexes → getD ((packMutexes t) .owner) j 0 ≡ idOf (ownerOf t j)
+  unfolding packMutexes
+  owner-zero j h = other-default (pad maxMutexes noId (map idOf (t .owners))) j 0 noId (omega (arith, length-pad maxMutexes noId (map idOf (t .owners)) (omega (arith, F .few-mutexes, length-map (t .owners) idOf)))) ∙ owner-read t j
+
+  mutexes-n : (packMutexes t) .n ≡ mutexes t
+  unfolding packMutexes
+  mutexes-n = refl
+
+  mutexes-tidy : mutexesTidyb (packMutexes t) ≡ true
+  unfolding mutexesTidyb mutexPlaceb idOf
+  mutexes-tidy = true-and _ _ (le-leb ((packMutexes t) .n) maxMutexes (omega (arith, F .few-mutexes, mutexes-n))) (true-all maxMutexes _ (λ j h. by-test (λ (b : Bool). b ≡ true) (ltb j ((packMutexes t) .n))
+      (λ q. rw (owner-zero j h) (true-id (ownerOf t j) (λ o e. omega (arith, F .owners j o e, F .few-tasks))))
+      (λ q. unused j h (ltb-false j _ q))))
+    where
+      unused : (j : ℕ) → j < maxMutexes → (packMutexes t) .n ≤ j → eqb (getD ((packMutexes t) .kind) j 0) 0 and eqb (getD ((packMutexes t) .owner) j 0) noId ≡ true
+      unused j h q =
+          let b : length (t .kinds) ≤ j = omega (arith, F .kind-column, mutexes-n) in
+          let c : length (t .owners) ≤ j = omega (arith, mutexes-n) in
+          true-and _ _ (eq-eqb _ _ (mutex-read t j ∙ List·getD-eq-default (t .kinds) 0 b)) (eq-eqb _ _ (owner-zero j h ∙ ap idOf (List·getD-eq-default (t .owners) none c)))
+
+  semaphores-n : (packSemaphores t) .n ≡ semaphores t
+  unfolding packSemaphores
+  semaphores-n = refl
+
+  semaphores-tidy : semaphoresTidyb (packSemaphores t) ≡ true
+  unfolding semaphoresTidyb semPlaceb
+  semaphores-tidy = true-and _ _ (le-leb ((packSemaphores t) .n) maxSemaphores (omega (arith, F .few-semaphores, semaphores-n))) (true-all maxSemaphores _ (λ j h. elim (which (ltb j ((packSemaphores t) .n))) [
+    | inl q ↦ or-l _ _ q
+    | inr q ↦ (
+        let b : length (t .counts) ≤ j = omega (arith, ltb-false j _ q, semaphores-n) in
+        let c : length (t .maxima) ≤ j = omega (arith, F .maximum-column) in
+        or-r _ _ (true-and _ _ (eq-eqb _ _ (count-read t j ∙ List·getD-eq-default (t .counts) 0 b)) (eq-eqb _ _ (maximum-read t j ∙ List·getD-eq-default (t .maxima) 0 c)))
+        )
+  ]))
+
+queue-tidy : (l : List ℕ) → length l ≤ places → queueTidyb (queueOf l) ≡ true
+unfolding queueTidyb queueOf
+queue-tidy l h = true-and _ _ (le-leb (length l) places h) (rest-queueOf l)
+
+module _ (s : Model) (I : Inv s) where
+  pub pack-tidy : tidyb (pack s) ≡ true
+  unfolding tidyb pack
+  pack-tidy =
+      true-and _ _ (tasks-tidy (s .tables) (I .facts) (s .clock))
+      (true-and _ _ (mutexes-tidy (s .tables) (I .facts) (s .clock))
+      (true-and _ _ (semaphores-tidy (s .tables) (I .facts) (s .clock))
+      (true-and _ _ (queue-tidy (s .ready) (ready-fits s I))
+      (true-and _ _ (queue-tidy (s .tables .waiting) (waiting-fits s I))
+      (true-and _ _ (true-flag (s .started)) (true-id (s .running) (runner-low s I)))))))
+
+  pub pack-levels : levelsb (pack s) ≡ true
+  unfolding levelsb
+  pack-levels = true-all _ _ (λ i h. eq-eqb _ _ (level-pack s i ∙ ap (λ t. levelIn t i) (sym (tables-pack s (I .facts) (I .clock-in)))))
+
+  -- the packing of a sound state is a sound record
+  pub pack-sound : soundOf (pack s) ≡ true
+  unfolding soundOf
+  pack-sound = true-and _ _ pack-tidy (true-and _ _ pack-levels (ap soundb (view-pack s I) ∙ inv-sound s I))
+
+-- a sound record is the packing of a sound state, that which it stands for
+module _ (k : State) (sound : soundOf k ≡ true) where
+  pub sound-view : Inv (view k)
+  unfolding soundOf
+  sound-view = sound-inv (view k) (and-r _ _ (and-r _ _ sound))
+
+  pub sound-pack : Typed k → pack (view k) ≡ k
+  unfolding soundOf
+  sound-pack T = good-pack k T (and-l _ _ sound) (and-l _ _ (and-r _ _ sound))

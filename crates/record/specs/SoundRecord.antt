@@ -1,0 +1,66 @@
+-- "Sound state" of a record: unused places and absent fields as in the fresh state, stored levels as defined, and the rules' test of what it stands for.
+use mathlib.Core.Bool.{Bool, cond, not}
+use Prim.Native.Nat.{ℕ}
+use lib.Dec.{ltb, leb, eqb}
+use lib.ListN.{getD}
+use Rattle.lists.specs.Test.{_and_, _or_, allb}
+use Rattle.rules.specs.Sizes.{maxTasks, maxMutexes, maxSemaphores}
+use Rattle.rules.specs.Levels.{levelIn}
+use Rattle.rules.specs.Sound.{soundb}
+use Rattle.queues.specs.Queue.{places, noId}
+use Rattle.record.specs.Record.{onMutex, onSemaphore, onTime, viewTables, view}
+use Rattle.record.specs.declared.State.{State}  -- keep
+use Rattle.record.specs.declared.Tasks.{Tasks}  -- keep
+use Rattle.record.specs.declared.Mutexes.{Mutexes}  -- keep
+use Rattle.record.specs.declared.Semaphores.{Semaphores}  -- keep
+use Rattle.queues.specs.declared.Queue.{Queue}  -- keep
+
+-- the places of a task that is there: an object only for a wait on one, a due time only for a timed wait
+unfoldable pub usedTaskb : Tasks → ℕ → Bool
+usedTaskb t i = leb (getD (t .wait) i 0) onTime
+    and (eqb (getD (t .object) i 0) 0 or eqb (getD (t .wait) i 0) onMutex or eqb (getD (t .wait) i 0) onSemaphore)
+    and leb (getD (t .timed) i 0) 1
+    and (eqb (getD (t .timed) i 0) 0 or not (eqb (getD (t .wait) i 0) 0))
+    and (eqb (getD (t .due) i 0) 0 or eqb (getD (t .timed) i 0) 1)
+
+-- "unused table places as in the fresh state"
+unfoldable pub unusedTaskb : Tasks → ℕ → Bool
+unusedTaskb t i = eqb (getD (t .priority) i 0) 0 and eqb (getD (t .level) i 0) 0 and eqb (getD (t .outcome) i 0) 0
+    and eqb (getD (t .wait) i 0) 0 and eqb (getD (t .object) i 0) 0 and eqb (getD (t .timed) i 0) 0 and eqb (getD (t .due) i 0) 0
+
+unfoldable pub taskPlaceb : Tasks → ℕ → Bool
+taskPlaceb t i = cond (ltb i (t .n)) (usedTaskb t i) (unusedTaskb t i)
+
+unfoldable pub tasksTidyb : Tasks → Bool
+tasksTidyb t = leb (t .n) maxTasks and allb maxTasks (taskPlaceb t)
+
+-- an id is that of a task that there can be, or none
+abbrev pub idb : ℕ → Bool
+idb x = ltb x maxTasks or eqb x noId
+
+unfoldable pub mutexPlaceb : Mutexes → ℕ → Bool
+mutexPlaceb m j = cond (ltb j (m .n)) (idb (getD (m .owner) j 0)) (eqb (getD (m .kind) j 0) 0 and eqb (getD (m .owner) j 0) noId)
+
+unfoldable pub mutexesTidyb : Mutexes → Bool
+mutexesTidyb m = leb (m .n) maxMutexes and allb maxMutexes (mutexPlaceb m)
+
+unfoldable pub semPlaceb : Semaphores → ℕ → Bool
+semPlaceb c k = ltb k (c .n) or (eqb (getD (c .count) k 0) 0 and eqb (getD (c .maximum) k 0) 0)
+
+unfoldable pub semaphoresTidyb : Semaphores → Bool
+semaphoresTidyb c = leb (c .n) maxSemaphores and allb maxSemaphores (semPlaceb c)
+
+unfoldable pub queueTidyb : Queue → Bool
+queueTidyb q = leb (q .n) places and allb places (λ i. ltb i (q .n) or eqb (getD (q .ids) i 0) noId)
+
+unfoldable pub tidyb : State → Bool
+tidyb k = tasksTidyb (k .tasks) and mutexesTidyb (k .mutexes) and semaphoresTidyb (k .semaphores) and queueTidyb (k .ready) and queueTidyb (k .waiting)
+    and leb (k .started) 1 and idb (k .running)
+
+-- "stored levels as defined"
+unfoldable pub levelsb : State → Bool
+levelsb k = allb (k .tasks .n) (λ i. eqb (getD (k .tasks .level) i 0) (levelIn (viewTables k) i))
+
+-- document 01's term "sound state", of a record
+unfoldable pub soundOf : State → Bool
+soundOf k = tidyb k and levelsb k and soundb (view k)

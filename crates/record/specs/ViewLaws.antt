@@ -1,0 +1,280 @@
+-- What the view of a record holds at each place, where unused places are as in the fresh state.
+use mathlib.Core.Path.{_≡_, refl, ap, sym, _∙_}
+use mathlib.Core.Bool.{Bool, true, false, cond}
+use mathlib.Core.Logic.{_⊎_, inl, inr}
+use mathlib.Core.Option.{Option, none}
+use Prim.Native.Nat.{ℕ, _≤_, _<_, min}
+use native.Mathlib.Omega.{arith}
+use native.Mathlib.Decide.{decLt}
+use lib.Dec.{eqb}
+use lib.ListN.{length, getD, take, List·getD-eq-default, List·getD-map, length-map, length-take}
+use lib.Seq.{length-take-le, getD-take}
+use borrow.Author.Tests.{ltb-true, leb-true, eqb-true, not-true, lt-ltb, le-ltb, eq-eqb, ne-eqb}
+use Rattle.lists.specs.Table.{filled}
+use Rattle.lists.specs.TestLaws.{which, clash, by-test, and-l, and-r, or-true, all-true}
+use Rattle.lists.specs.TableLaws.{length-filled, getD-filled}
+use Rattle.chains.specs.Least.{leastLeading}
+use Rattle.rules.specs.Sizes.{maxTasks, maxMutexes, maxSemaphores, inheriting}
+use Rattle.rules.specs.Tables.{tasks, mutexes, semaphores, priorityOf, outcomeOf, waitOf, kindOf, ownerOf, countOf, maximumOf}
+use Rattle.rules.specs.Levels.{mutexAwaited, andThen, next, heirOf, lends, levelIn}
+use Rattle.queues.specs.Queue.{places, noId, keyOf}
+use Rattle.walks.specs.Walk.{taskAt, nextIn, raised}
+use Rattle.walks.specs.WalkLaws.{other-default, next-in, next-out, next-agrees, leading-own, raised-ext}
+use Rattle.record.specs.Record.{onMutex, onSemaphore, onTime, leftIn, waitIn, waitAt, viewTables}
+use Rattle.record.specs.SoundRecord.{usedTaskb, unusedTaskb, taskPlaceb, tasksTidyb, idb, mutexPlaceb, mutexesTidyb, semaphoresTidyb, queueTidyb, tidyb, levelsb}
+use Rattle.record.specs.Reads.{ownerAt, kindAt, nextAt, lendsAt, newLevels, countAt, maximumAt}
+use Rattle.record.specs.GoodRecord.{Typed}
+use Rattle.record.specs.declared.State.{State}  -- keep
+use Rattle.rules.specs.Levels.{mutexIn}  -- keep
+
+-- what the test of unused places tells
+module _ (k : State) (tidy : tidyb k ≡ true) where
+  pub tasks-fit : k .tasks .n ≤ maxTasks
+  unfolding tidyb tasksTidyb
+  tasks-fit = leb-true _ _ (and-l _ _ (and-l _ _ tidy))
+
+  pub mutexes-fit : k .mutexes .n ≤ maxMutexes
+  unfolding tidyb mutexesTidyb
+  mutexes-fit = leb-true _ _ (and-l _ _ (and-l _ _ (and-r _ _ tidy)))
+
+  pub semaphores-fit : k .semaphores .n ≤ maxSemaphores
+  unfolding tidyb semaphoresTidyb
+  semaphores-fit = leb-true _ _ (and-l _ _ (and-l _ _ (and-r _ _ (and-r _ _ tidy))))
+
+  pub ready-fits : k .ready .n ≤ places
+  unfolding tidyb queueTidyb
+  ready-fits = leb-true _ _ (and-l _ _ (and-l _ _ (and-r _ _ (and-r _ _ (and-r _ _ tidy)))))
+
+  pub waiting-fits : k .waiting .n ≤ places
+  unfolding tidyb queueTidyb
+  waiting-fits = leb-true _ _ (and-l _ _ (and-l _ _ (and-r _ _ (and-r _ _ (and-r _ _ (and-r _ _ tidy))))))
+
+  pub running-id : idb (k .running) ≡ true
+  unfolding tidyb
+  running-id = and-r _ _ (and-r _ _ (and-r _ _ (and-r _ _ (and-r _ _ (and-r _ _ tidy)))))
+
+  pub running-or : (k .running < maxTasks) ⊎ (k .running ≡ noId)
+  running-or = elim (or-true _ _ running-id) [ inl u ↦ inl (ltb-true _ _ u) | inr u ↦ inr (eqb-true _ _ u) ]
+
+  -- one place of each table
+  task-place : (i : ℕ) → i < maxTasks → taskPlaceb (k .tasks) i ≡ true
+  unfolding tidyb tasksTidyb
+  task-place = all-true maxTasks (taskPlaceb (k .tasks)) (and-r _ _ (and-l _ _ tidy))
+
+  mutex-place : (j : ℕ) → j < maxMutexes → mutexPlaceb (k .mutexes) j ≡ true
+  unfolding tidyb mutexesTidyb
+  mutex-place = all-true maxMutexes (mutexPlaceb (k .mutexes)) (and-r _ _ (and-l _ _ (and-r _ _ tidy)))
+
+  pub used-task : (i : ℕ) → i < k .tasks .n → usedTaskb (k .tasks) i ≡ true
+  unfolding taskPlaceb
+  used-task i h = rw (lt-ltb i (k .tasks .n) h) at (task-place i (omega (arith, tasks-fit)))
+
+  pub unused-task : (i : ℕ) → k .tasks .n ≤ i → i < maxTasks → unusedTaskb (k .tasks) i ≡ true
+  unfolding taskPlaceb
+  unused-task i h l = rw (le-ltb i (k .tasks .n) h) at (task-place i l)
+
+  -- the kind of wait is one of the four, and who does not wait has no due time
+  pub wait-kind : (i : ℕ) → i < k .tasks .n → getD (k .tasks .wait) i 0 ≤ onTime
+  unfolding usedTaskb
+  wait-kind i h = leb-true _ _ (and-l _ _ (used-task i h))
+
+  pub timed-waits : (i : ℕ) → i < k .tasks .n → getD (k .tasks .wait) i 0 ≡ 0 → getD (k .tasks .timed) i 0 ≡ 0
+  unfolding usedTaskb
+  timed-waits i h e = elim (or-true _ _ (and-l _ _ (and-r _ _ (and-r _ _ (and-r _ _ (used-task i h)))))) [
+    | inl u ↦ eqb-true _ _ u
+    | inr u ↦ absurd (clash (eq-eqb (getD (k .tasks .wait) i 0) 0 e) (not-true _ u))
+  ]
+
+-- a stored level, where stored levels are as defined
+pub stored-level : (k : State) → levelsb k ≡ true → (i : ℕ) → i < k .tasks .n → keyOf (k .tasks .level) i ≡ levelIn (viewTables k) i
+unfolding levelsb
+stored-level k e i h = eqb-true _ _ (all-true (k .tasks .n) _ e i h)
+
+-- the mutex of a wait, by the places of its task
+after-wait : (kind object : ℕ) (left : Option ℕ) (f : ℕ → Option ℕ) → andThen (mutexAwaited (waitIn kind object left)) f ≡ cond (eqb kind onMutex) (f object) none
+unfolding waitIn mutexAwaited mutexIn andThen
+after-wait kind object left f = elim (which (eqb kind onMutex)) [
+  | inl e ↦ rw e refl
+  | inr e ↦ rw e (elim (which (eqb kind onSemaphore)) [
+    | inl u ↦ rw u refl
+    | inr u ↦ rw u (elim (which (eqb kind onTime)) [ inl v ↦ rw v refl | inr v ↦ rw v refl ])
+  ])
+]
+
+task-cond : (b : Bool) (x : ℕ) → taskAt (cond b x noId) ≡ cond b (taskAt x) none
+task-cond true x = refl
+task-cond false x = refl
+
+nothing : (b c : Bool) → _≡_ {A = Option ℕ} (cond b none none) (cond c none none)
+nothing true true = refl
+nothing true false = refl
+nothing false true = refl
+nothing false false = refl
+
+-- a table of ids and a map that agree on the first n tasks, and lead nowhere from the others
+map-same : (f : ℕ → ℕ) (g : ℕ → Option ℕ) (n : ℕ) → n ≤ maxTasks → ((i : ℕ) → i < n → taskAt (f i) ≡ g i)
+    → ((i : ℕ) → n ≤ i → f i ≡ noId) → ((i : ℕ) → n ≤ i → g i ≡ none) → (i : ℕ) → nextIn (filled maxTasks f) i ≡ g i
+map-same f g n fit same out none-out = next-agrees (filled maxTasks f) g n
+    (λ i h. in-table i (omega arith) ∙ same i h)
+    (λ i h. elim (decLt i maxTasks) [
+      | yes l ↦ in-table i l ∙ ap taskAt (out i h)
+      | no l ↦ next-out (filled maxTasks f) i (omega arith)
+    ])
+    none-out
+  where
+    in-table : (i : ℕ) → i < maxTasks → nextIn (filled maxTasks f) i ≡ taskAt (f i)
+    in-table i l = next-in (filled maxTasks f) i l ∙ ap taskAt (getD-filled maxTasks f 0 i l)
+
+-- what the view's columns read
+module _ (k : State) (T : Typed k) (tidy : tidyb k ≡ true) where
+  -- behind the last task nobody waits
+  pub unused-wait : (i : ℕ) → k .tasks .n ≤ i → getD (k .tasks .wait) i 0 ≡ 0
+  unfolding unusedTaskb
+  unused-wait i h = elim (decLt i maxTasks) [
+    | yes l ↦ eqb-true _ _ (and-l _ _ (and-r _ _ (and-r _ _ (and-r _ _ (unused-task k tidy i h l)))))
+    | no l ↦ List·getD-eq-default (k .tasks .wait) 0 (omega (arith, T .wait-length))
+  ]
+
+  -- an owner is an id, and there is none behind the last mutex
+  pub owner-id : (j : ℕ) → (ownerAt (k .mutexes) j < maxTasks) ⊎ (ownerAt (k .mutexes) j ≡ noId)
+  unfolding mutexPlaceb
+  owner-id j = elim (decLt j maxMutexes) [
+    | yes l ↦ (let d : getD (k .mutexes .owner) j 0 ≡ ownerAt (k .mutexes) j = other-default (k .mutexes .owner) j 0 noId (omega (arith, T .owner-length)) in
+        elim (decLt j (k .mutexes .n)) [
+          | yes h ↦ elim (or-true _ _ (rw (lt-ltb j (k .mutexes .n) h) at (mutex-place k tidy j l))) [
+            | inl u ↦ inl (omega (arith, ltb-true (getD (k .mutexes .owner) j 0) maxTasks u))
+            | inr u ↦ inr (omega (arith, eqb-true (getD (k .mutexes .owner) j 0) noId u))
+          ]
+          | no h ↦ inr (omega (arith, eqb-true (getD (k .mutexes .owner) j 0) noId (and-r _ _ (rw (le-ltb j (k .mutexes .n) (omega arith)) at (mutex-place k tidy j l)))))
+        ])
+    | no l ↦ inr (List·getD-eq-default (k .mutexes .owner) noId (omega (arith, T .owner-length)))
+  ]
+
+  pub unused-owner : (j : ℕ) → k .mutexes .n ≤ j → ownerAt (k .mutexes) j ≡ noId
+  unfolding mutexPlaceb
+  unused-owner j h = elim (decLt j maxMutexes) [
+    | yes l ↦ sym (other-default (k .mutexes .owner) j 0 noId (omega (arith, T .owner-length)))
+        ∙ eqb-true _ _ (and-r _ _ (rw (le-ltb j (k .mutexes .n) h) at (mutex-place k tidy j l)))
+    | no l ↦ List·getD-eq-default (k .mutexes .owner) noId (omega (arith, T .owner-length))
+  ]
+
+  pub view-tasks : tasks (viewTables k) ≡ k .tasks .n
+  unfolding viewTables
+  view-tasks = length-take-le (k .tasks .n) (k .tasks .priority) (omega (arith, T .priority-length, tasks-fit k tidy))
+
+  pub view-outcomes : length (viewTables k .outcomes) ≡ k .tasks .n
+  unfolding viewTables
+  view-outcomes = length-take-le (k .tasks .n) (k .tasks .outcome) (omega (arith, T .outcome-length, tasks-fit k tidy))
+
+  pub view-waits : length (viewTables k .waits) ≡ k .tasks .n
+  unfolding viewTables
+  view-waits = length-filled (k .tasks .n) (waitAt (k .tasks) (k .clock))
+
+  pub view-mutexes : mutexes (viewTables k) ≡ k .mutexes .n
+  unfolding viewTables
+  view-mutexes = length-map (take (k .mutexes .n) (k .mutexes .owner)) taskAt
+      ∙ length-take-le (k .mutexes .n) (k .mutexes .owner) (omega (arith, T .owner-length, mutexes-fit k tidy))
+
+  pub view-kinds : length (viewTables k .kinds) ≡ k .mutexes .n
+  unfolding viewTables
+  view-kinds = length-take-le (k .mutexes .n) (k .mutexes .kind) (omega (arith, T .kind-length, mutexes-fit k tidy))
+
+  pub view-semaphores : semaphores (viewTables k) ≡ k .semaphores .n
+  unfolding viewTables
+  view-semaphores = length-take-le (k .semaphores .n) (k .semaphores .count) (omega (arith, T .count-length, semaphores-fit k tidy))
+
+  pub view-maxima : length (viewTables k .maxima) ≡ k .semaphores .n
+  unfolding viewTables
+  view-maxima = length-take-le (k .semaphores .n) (k .semaphores .maximum) (omega (arith, T .maximum-length, semaphores-fit k tidy))
+
+  pub view-priority : (i : ℕ) → i < k .tasks .n → priorityOf (viewTables k) i ≡ keyOf (k .tasks .priority) i
+  unfolding viewTables
+  view-priority i h = getD-take (k .tasks .n) (k .tasks .priority) i 0 h
+
+  pub view-outcome : (i : ℕ) → i < k .tasks .n → outcomeOf (viewTables k) i ≡ keyOf (k .tasks .outcome) i
+  unfolding viewTables
+  view-outcome i h = getD-take (k .tasks .n) (k .tasks .outcome) i 0 h
+
+  pub view-wait : (i : ℕ) → i < k .tasks .n → waitOf (viewTables k) i ≡ waitAt (k .tasks) (k .clock) i
+  unfolding viewTables
+  view-wait i h = getD-filled (k .tasks .n) (waitAt (k .tasks) (k .clock)) none i h
+
+  pub view-wait-out : (i : ℕ) → k .tasks .n ≤ i → waitOf (viewTables k) i ≡ none
+  view-wait-out i h = List·getD-eq-default (viewTables k .waits) none (omega (arith, view-waits))
+
+  pub view-kind : (j : ℕ) → j < k .mutexes .n → kindOf (viewTables k) j ≡ kindAt (k .mutexes) j
+  unfolding viewTables
+  view-kind j h = getD-take (k .mutexes .n) (k .mutexes .kind) j 0 h
+
+  pub view-owner : (j : ℕ) → ownerOf (viewTables k) j ≡ taskAt (ownerAt (k .mutexes) j)
+  unfolding viewTables
+  view-owner j = List·getD-map taskAt (take (k .mutexes .n) (k .mutexes .owner)) j noId ∙ ap taskAt same
+    where
+      same : getD (take (k .mutexes .n) (k .mutexes .owner)) j noId ≡ ownerAt (k .mutexes) j
+      same = elim (decLt j (k .mutexes .n)) [
+        | yes h ↦ getD-take (k .mutexes .n) (k .mutexes .owner) j noId h
+        | no h ↦ List·getD-eq-default (take (k .mutexes .n) (k .mutexes .owner)) noId (omega (arith, length-take (k .mutexes .n) (k .mutexes .owner))) ∙ sym (unused-owner j (omega arith))
+      ]
+
+  pub view-count : (j : ℕ) → j < k .semaphores .n → countOf (viewTables k) j ≡ countAt (k .semaphores) j
+  unfolding viewTables
+  view-count j h = getD-take (k .semaphores .n) (k .semaphores .count) j 0 h
+
+  pub view-maximum : (j : ℕ) → j < k .semaphores .n → maximumOf (viewTables k) j ≡ maximumAt (k .semaphores) j
+  unfolding viewTables
+  view-maximum j h = getD-take (k .semaphores .n) (k .semaphores .maximum) j 0 h
+
+  -- the task after i, of those that wait for a mutex
+  after-at : (i : ℕ) → i < k .tasks .n → (f : ℕ → Option ℕ)
+      → andThen (mutexAwaited (waitOf (viewTables k) i)) f ≡ cond (eqb (getD (k .tasks .wait) i 0) onMutex) (f (getD (k .tasks .object) i 0)) none
+  unfolding waitAt
+  after-at i h f = rw (view-wait i h) (after-wait (getD (k .tasks .wait) i 0) (getD (k .tasks .object) i 0) (leftIn (getD (k .tasks .timed) i 0) (getD (k .tasks .due) i 0) (k .clock)) f)
+
+  pub next-at : (i : ℕ) → i < k .tasks .n → taskAt (nextAt (k .tasks) (k .mutexes) i) ≡ next (viewTables k) i
+  unfolding nextAt next
+  next-at i h = by-test (λ (x : ℕ). taskAt x ≡ andThen (mutexAwaited (waitOf (viewTables k) i)) (ownerOf (viewTables k))) (eqb (getD (k .tasks .wait) i 0) onMutex)
+      (λ e. sym (after-at i h (ownerOf (viewTables k)) ∙ rw e (view-owner (getD (k .tasks .object) i 0))))
+      (λ e. sym (after-at i h (ownerOf (viewTables k)) ∙ rw e refl))
+
+  -- the owner of an inheriting mutex
+  view-heir : (j : ℕ) → taskAt (cond (eqb (kindAt (k .mutexes) j) inheriting) (ownerAt (k .mutexes) j) noId) ≡ heirOf (viewTables k) j
+  view-heir j = task-cond (eqb (kindAt (k .mutexes) j) inheriting) (ownerAt (k .mutexes) j) ∙ elim (decLt j (k .mutexes .n)) [
+    | yes h ↦ sym (rw (view-kind j h, view-owner j) refl)
+    | no h ↦ rw (view-owner j, unused-owner j (omega arith)) (nothing (eqb (kindAt (k .mutexes) j) inheriting) (eqb (kindOf (viewTables k) j) inheriting))
+  ]
+
+  pub lends-at : (i : ℕ) → i < k .tasks .n → taskAt (lendsAt (k .tasks) (k .mutexes) i) ≡ lends (viewTables k) i
+  unfolding lendsAt lends
+  lends-at i h = by-test (λ (x : ℕ). taskAt x ≡ andThen (mutexAwaited (waitOf (viewTables k) i)) (heirOf (viewTables k))) (eqb (getD (k .tasks .wait) i 0) onMutex)
+      (λ e. view-heir (getD (k .tasks .object) i 0) ∙ sym (after-at i h (heirOf (viewTables k)) ∙ rw e refl))
+      (λ e. sym (after-at i h (heirOf (viewTables k)) ∙ rw e refl))
+
+  -- behind the last task there is none
+  next-at-out : (i : ℕ) → k .tasks .n ≤ i → nextAt (k .tasks) (k .mutexes) i ≡ noId
+  unfolding nextAt
+  next-at-out i h = rw (ne-eqb (getD (k .tasks .wait) i 0) onMutex (λ e. omega (arith, unused-wait i h))) refl
+
+  lends-at-out : (i : ℕ) → k .tasks .n ≤ i → lendsAt (k .tasks) (k .mutexes) i ≡ noId
+  unfolding lendsAt
+  lends-at-out i h = rw (ne-eqb (getD (k .tasks .wait) i 0) onMutex (λ e. omega (arith, unused-wait i h))) refl
+
+  -- the tables of ids and the rules' maps
+  pub next-same : (i : ℕ) → nextIn (filled maxTasks (nextAt (k .tasks) (k .mutexes))) i ≡ next (viewTables k) i
+  unfolding next mutexAwaited andThen
+  next-same = map-same (nextAt (k .tasks) (k .mutexes)) (next (viewTables k)) (k .tasks .n) (tasks-fit k tidy) next-at next-at-out (λ i h. rw (view-wait-out i h) refl)
+
+  pub lends-same : (i : ℕ) → nextIn (filled maxTasks (lendsAt (k .tasks) (k .mutexes))) i ≡ lends (viewTables k) i
+  unfolding lends mutexAwaited andThen
+  lends-same = map-same (lendsAt (k .tasks) (k .mutexes)) (lends (viewTables k)) (k .tasks .n) (tasks-fit k tidy) lends-at lends-at-out (λ i h. rw (view-wait-out i h) refl)
+
+  -- the levels that the code works out are those of the rules
+  pub new-level : (i : ℕ) → i < k .tasks .n → getD (newLevels (k .tasks) (k .mutexes)) i 0 ≡ levelIn (viewTables k) i
+  unfolding newLevels levelIn
+  new-level i h =
+      ap (λ (m : ℕ). getD (raised (k .tasks .priority) (filled maxTasks (lendsAt (k .tasks) (k .mutexes))) (k .tasks .n) m) i 0) all
+      ∙ raised-ext (k .tasks .priority) (filled maxTasks (lendsAt (k .tasks) (k .mutexes))) (k .tasks .n) (tasks-fit k tidy) (lends (viewTables k)) lends-same i
+      ∙ leading-own (k .tasks .n) (lends (viewTables k)) (keyOf (k .tasks .priority)) (priorityOf (viewTables k)) (λ j q. sym (view-priority j q)) i h
+      ∙ ap (λ (m : ℕ). leastLeading m (lends (viewTables k)) (priorityOf (viewTables k)) i) (sym view-tasks)
+    where
+      all : min (k .tasks .n) maxTasks ≡ k .tasks .n
+      all = omega (arith, tasks-fit k tidy)

@@ -1,0 +1,43 @@
+-- What the proofs of the test of a record share: what a call's answer says of a test, the tests that loops make of each place, and a count one more.
+use mathlib.Core.Path.{_≡_, refl, sym, _∙_}
+use mathlib.Core.List.{List}
+use mathlib.Core.Bool.{Bool, true, false, not}
+use Prim.Native.Nat.{ℕ, _+_}
+use native.Mathlib.Omega.{arith}
+use lib.Dec.{ltb, eqb}
+use borrow.Author.Tests.{not-true, not-false, eqb-true, eq-eqb}
+use Rattle.lists.specs.Test.{_or_}
+use Rattle.lists.specs.TestLaws.{same-test}
+use Rattle.rules.specs.Sizes.{levels, granted}
+use Rattle.queues.specs.Queue.{noId, keyOf}
+use Rattle.record.specs.Reads.{ownerAt}
+use Rattle.record.specs.declared.Mutexes.{Mutexes}
+
+-- a test that a call answers, after `if !call`
+pub passed : {r b : Bool} → r ≡ b → not r ≡ false → b ≡ true
+passed {r} e h = sym e ∙ not-false r h
+
+pub failed : {r b : Bool} → r ≡ b → not r ≡ true → b ≡ false
+failed {r} e h = sym e ∙ not-true r h
+
+pub or-false : (b : Bool) → b or false ≡ b
+unfolding _or_
+or-false true = refl
+or-false false = refl
+
+-- what a loop tests of each place of a table
+abbrev pub priorityAt : List ℕ → ℕ → Bool
+priorityAt priorities i = ltb (keyOf priorities i) levels
+
+abbrev pub grantedAt : List ℕ → ℕ → Bool
+grantedAt outcomes i = eqb (keyOf outcomes i) granted
+
+abbrev pub freeAt : Mutexes → ℕ → Bool
+freeAt m j = eqb (ownerAt m j) noId
+
+-- counted without the running task, and with it
+pub one-more : (x : ℕ) → eqb x 0 ≡ eqb (x + 1) 1
+one-more x = same-test _ _ (λ u. eq-eqb (x + 1) 1 (omega (arith, eqb-true x 0 u))) (λ u. eq-eqb x 0 (omega (arith, eqb-true (x + 1) 1 u)))
+
+pub none-more : (x : ℕ) → eqb x 1 ≡ eqb (x + 0) 1
+none-more x = let e : x + 0 ≡ x = omega arith in rw e refl

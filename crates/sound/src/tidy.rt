@@ -1,0 +1,198 @@
+// Is a record tidy: numbers of things in range, unused places and absent fields as in the fresh record?
+ghost use mathlib.Core.Path.{_≡_};
+ghost use Prim.Native.Nat.{_<_};
+ghost use Rattle.rules.specs.Sizes.{maxTasks, maxMutexes, maxSemaphores};
+ghost use Rattle.record.specs.SoundRecord.{usedTaskb, unusedTaskb, taskPlaceb, tasksTidyb, idb, mutexPlaceb, mutexesTidyb, semPlaceb, semaphoresTidyb, queueTidyb, tidyb};
+use queues::Queue;
+use record::MAX_MUTEXES;
+use record::MAX_SEMAPHORES;
+use record::MAX_TASKS;
+use record::MUTEXES;
+use record::Mutexes;
+use record::NO_WAIT;
+use record::NONE;
+use record::ON_MUTEX;
+use record::ON_SEMAPHORE;
+use record::ON_TIME;
+use record::SEMAPHORES;
+use record::Semaphores;
+use record::State;
+use record::TASKS;
+use record::Tasks;
+
+// The places of a task that is there: an object only for a wait on one, a due time only for a timed wait.
+fn used_task(t: Tasks, i: usize) -> bool
+    requires { ⌜ i < maxTasks ⌝ }
+    ensures { λ r. ⌜ r ≡ usedTaskb t i ⌝ }
+{
+    let kind = t.wait[i];
+    if ON_TIME < kind {
+        return false;
+    }
+    if t.object[i] != 0 {
+        if kind != ON_MUTEX {
+            if kind != ON_SEMAPHORE {
+                return false;
+            }
+        }
+    }
+    let timed = t.timed[i];
+    if 1 < timed {
+        return false;
+    }
+    if timed != 0 {
+        if kind == NO_WAIT {
+            return false;
+        }
+        return true;
+    }
+    t.due[i] == 0
+}
+
+// Unused places are as in the fresh state.
+fn unused_task(t: Tasks, i: usize) -> bool
+    requires { ⌜ i < maxTasks ⌝ }
+    ensures { λ r. ⌜ r ≡ unusedTaskb t i ⌝ }
+{
+    if t.priority[i] != 0 {
+        return false;
+    }
+    if t.level[i] != 0 {
+        return false;
+    }
+    if t.outcome[i] != 0 {
+        return false;
+    }
+    if t.wait[i] != 0 {
+        return false;
+    }
+    if t.object[i] != 0 {
+        return false;
+    }
+    if t.timed[i] != 0 {
+        return false;
+    }
+    t.due[i] == 0
+}
+
+fn task_place(t: Tasks, i: usize) -> bool
+    requires { ⌜ i < maxTasks ⌝ }
+    ensures { λ r. ⌜ r ≡ taskPlaceb t i ⌝ }
+{
+    if i < t.n as usize {
+        return used_task(t, i);
+    }
+    unused_task(t, i)
+}
+
+fn tasks_tidy(t: Tasks) -> bool
+    ensures { λ r. ⌜ r ≡ tasksTidyb t ⌝ }
+{
+    if MAX_TASKS < t.n {
+        return false;
+    }
+    for i in 0..TASKS {
+        if !task_place(t, i) {
+            return false;
+        }
+    }
+    true
+}
+
+// An id is that of a task that there can be, or none.
+fn is_id(x: u8) -> bool
+    ensures { λ r. ⌜ r ≡ idb x ⌝ }
+{
+    if x < MAX_TASKS {
+        return true;
+    }
+    x == NONE
+}
+
+fn mutex_place(m: Mutexes, j: usize) -> bool
+    requires { ⌜ j < maxMutexes ⌝ }
+    ensures { λ r. ⌜ r ≡ mutexPlaceb m j ⌝ }
+{
+    if j < m.n as usize {
+        return is_id(m.owner[j]);
+    }
+    if m.kind[j] != 0 {
+        return false;
+    }
+    m.owner[j] == NONE
+}
+
+fn mutexes_tidy(m: Mutexes) -> bool
+    ensures { λ r. ⌜ r ≡ mutexesTidyb m ⌝ }
+{
+    if MAX_MUTEXES < m.n {
+        return false;
+    }
+    for j in 0..MUTEXES {
+        if !mutex_place(m, j) {
+            return false;
+        }
+    }
+    true
+}
+
+fn semaphore_place(c: Semaphores, j: usize) -> bool
+    requires { ⌜ j < maxSemaphores ⌝ }
+    ensures { λ r. ⌜ r ≡ semPlaceb c j ⌝ }
+{
+    if j < c.n as usize {
+        return true;
+    }
+    if c.count[j] != 0 {
+        return false;
+    }
+    c.maximum[j] == 0
+}
+
+fn semaphores_tidy(c: Semaphores) -> bool
+    ensures { λ r. ⌜ r ≡ semaphoresTidyb c ⌝ }
+{
+    if MAX_SEMAPHORES < c.n {
+        return false;
+    }
+    for j in 0..SEMAPHORES {
+        if !semaphore_place(c, j) {
+            return false;
+        }
+    }
+    true
+}
+
+fn queue_tidy(q: Queue) -> bool
+    ensures { λ r. ⌜ r ≡ queueTidyb q ⌝ }
+{
+    if MAX_TASKS < q.n {
+        return false;
+    }
+    queues::rest_empty(q)
+}
+
+// "Unused table places as in the fresh state", and absent fields too.
+pub fn tidy(s: State) -> bool
+    ensures { λ r. ⌜ r ≡ tidyb s ⌝ }
+{
+    if !tasks_tidy(s.tasks) {
+        return false;
+    }
+    if !mutexes_tidy(s.mutexes) {
+        return false;
+    }
+    if !semaphores_tidy(s.semaphores) {
+        return false;
+    }
+    if !queue_tidy(s.ready) {
+        return false;
+    }
+    if !queue_tidy(s.waiting) {
+        return false;
+    }
+    if 1 < s.started {
+        return false;
+    }
+    is_id(s.running)
+}

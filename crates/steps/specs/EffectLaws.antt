@@ -1,0 +1,147 @@
+-- Each effect on the packed tables is the packing of the rules' effect, with the old table of levels.
+use mathlib.Core.Path.{_≡_, refl, ap, sym, _∙_, fun-ext}
+use mathlib.Core.List.{List, _∷_, map}
+use mathlib.Core.Bool.{Bool, true, cond, not}
+use mathlib.Core.Logic.{inl, inr}
+use mathlib.Core.Option.{Option, none, some}
+use Prim.Native.Nat.{ℕ, suc, _≤_, _<_}
+use native.Mathlib.Omega.{arith}
+use native.Mathlib.Decide.{decLt}
+use lib.Dec.{eqb}
+use lib.ListN.{length, getD, set, List·getD-eq-default, List·getD-map, length-map}
+use borrow.Author.Tests.{lt-ltb, le-ltb}
+use Rattle.lists.specs.Test.{someb}
+use Rattle.lists.specs.Count.{occ, member, opt}
+use Rattle.lists.specs.Order.{keep}
+use Rattle.lists.specs.Table.{pad}
+use Rattle.lists.specs.TestLaws.{which, by-test}
+use Rattle.lists.specs.CountLaws.{in-below, below-le, pigeonhole}
+use Rattle.lists.specs.OrderLaws.{occ-kept, occ-dropped}
+use Rattle.lists.specs.TableLaws.{length-edit, getD-edit, length-pad, pad-set, getD-pad}
+use Rattle.rules.specs.Sizes.{maxTasks, forever, pending}
+use Rattle.rules.specs.Step.{level, outcome}
+use Rattle.rules.specs.Effect.{beginWait, endWaits, ended, ticksOf, waitFor, due}
+use Rattle.rules.specs.Sound.{waitCount}
+use Rattle.rules.specs.Invariant.{Facts, Inv}
+use Rattle.rules.specs.FactsLaws.{wait-ended}
+use Rattle.rules.specs.WaiterLaws.{wait-in}
+use Rattle.rules.specs.StepLaws.{caller-in}
+use Rattle.rules.specs.History.{at}
+use Rattle.queues.specs.Queue.{noId, queueOf, keyOf, pushed, kept, idOf}
+use Rattle.queues.specs.QueueLaws.{push-queueOf, kept-queueOf}
+use Rattle.record.specs.Record.{onTime, awaitedKind, awaitedObject, leftCode, kindCode, objectCode, timedCode, dueCode, packTasks, packMutexes, packSemaphores, pack}
+use Rattle.record.specs.Setters.{withTasks, withLevel}
+use Rattle.steps.specs.Machine.{waitBegun, endedWhere, woke, timedFor, dueFor, blockedOn}
+use Rattle.record.specs.PackLaws.{levelColumn, packWith}
+use Rattle.record.specs.ColumnLaws.{chosen, map-set, wait-code}
+use Rattle.steps.specs.FlagLaws.{Flags, flag-one, flag-zero, setWhere, set-column, leftOutcome, ended-columns}
+use Rattle.record.specs.declared.State.{State}  -- keep
+use Rattle.record.specs.declared.Tasks.{Tasks}  -- keep
+use Rattle.record.specs.Setters.{withWaiting, withClock, withMutexes, withSemaphores, withRunning}  -- keep
+use Rattle.rules.specs.State.{State as Model, levelOf, placed, withTables, withClock as setClock}  -- keep
+use Rattle.rules.specs.Tables.{Tables, Wait, Awaited, mutexOf, semOf, time, tasks, mutexes, semaphores, priorityOf, outcomeOf, waitOf, kindOf, ownerOf, countOf, maximumOf}  -- keep
+
+-- the columns that waits change
+abbrev columns : Tasks → List ℕ → List ℕ → List ℕ → List ℕ → List ℕ → Tasks
+columns t d o w b m = record { due = d; priority = t .priority; level = t .level; outcome = o; wait = w; object = b; timed = m; n = t .n }
+
+same-columns : (t : Tasks) {d d′ o o′ w w′ b b′ m m′ : List ℕ} → d ≡ d′ → o ≡ o′ → w ≡ w′ → b ≡ b′ → m ≡ m′ → columns t d o w b m ≡ columns t d′ o′ w′ b′ m′
+same-columns t e f g h k = rw (e, f, g, h, k) refl
+
+-- the waits of those who pass the test end
+module _ (t : Tables) (F : Facts t) (p : ℕ → Bool) (named : (i : ℕ) → p i ≡ true → waitCount (waitOf t i) ≡ 1) where
+  -- who becomes ready is who passes
+  pub member-ended : (i : ℕ) → member i (ended t p) ≡ p i
+  member-ended i = elim (which (p i)) [
+    | inl e ↦ rw e (lt-ltb 0 (occ i (ended t p)) (omega (arith, occ-kept p i (t .waiting) e, F .waiting i, named i e)))
+    | inr e ↦ rw e (le-ltb 0 (occ i (ended t p)) (omega (arith, occ-dropped p i (t .waiting) e)))
+  ]
+
+  module _ (flags : List ℕ) (fl : Flags flags p) where
+    -- the order of the waits
+    pub kept-ended : kept (queueOf (t .waiting)) flags 0 ≡ queueOf (keep (λ i. not (p i)) (t .waiting))
+    kept-ended = kept-queueOf flags 0 (t .waiting) ∙ ap (λ (q : ℕ → Bool). queueOf (keep q (t .waiting))) (fun-ext (flag-zero flags p fl))
+
+    -- a column of codes
+    module _ (out : ℕ → ℕ) where
+      ended-code : (f : Option Wait → ℕ) → f none ≡ 0
+          → setWhere (λ i. eqb (keyOf flags i) 1) (λ i. 0) (pad maxTasks 0 (map f (t .waits))) maxTasks ≡ pad maxTasks 0 (map f ((endWaits t p out) .waits))
+      ended-code f e = set-column (λ i. eqb (keyOf flags i) 1) (λ i. 0) (pad maxTasks 0 (map f (t .waits))) (map f ((endWaits t p out) .waits))
+          (length-pad maxTasks 0 (map f (t .waits)) (omega (arith, length-map (t .waits) f, F .wait-column, F .few-tasks)))
+          (omega (arith, length-map ((endWaits t p out) .waits) f, length-edit (λ i x. cond (p i) none x) (t .waits), F .wait-column, F .few-tasks))
+          (λ i. ap (λ b. cond b 0 (getD (pad maxTasks 0 (map f (t .waits))) i 0)) (flag-one flags p fl i)
+          ∙ ap (cond (p i) 0) (wait-code t f i e)
+          ∙ by-test (λ (z : ℕ). z ≡ f (cond (p i) none (waitOf t i))) (p i) (λ q. rw q (sym e)) (λ q. rw q refl)
+          ∙ ap f (sym (wait-ended t p out i)) ∙ sym (List·getD-map f ((endWaits t p out) .waits) i none) ∙ ap (getD (map f ((endWaits t p out) .waits)) i) e)
+
+      module _ (v : ℕ → ℕ) (same : (i : ℕ) → p i ≡ true → v i ≡ out i) where
+        ended-outcome : setWhere (λ i. eqb (keyOf flags i) 1) v (pad maxTasks 0 (t .outcomes)) maxTasks ≡ pad maxTasks 0 ((endWaits t p out) .outcomes)
+        ended-outcome = set-column (λ i. eqb (keyOf flags i) 1) v (pad maxTasks 0 (t .outcomes)) ((endWaits t p out) .outcomes)
+            (length-pad maxTasks 0 (t .outcomes) (omega (arith, F .outcome-column, F .few-tasks)))
+            (omega (arith, length-edit (λ i x. cond (p i) (out i) x) (t .outcomes), F .outcome-column, F .few-tasks))
+            (λ i. ap (λ b. cond b (v i) (getD (pad maxTasks 0 (t .outcomes)) i 0)) (flag-one flags p fl i)
+            ∙ ap (cond (p i) (v i)) (getD-pad maxTasks 0 (t .outcomes) i)
+            ∙ at i)
+          where
+            at : (i : ℕ) → cond (p i) (v i) (outcomeOf t i) ≡ getD ((endWaits t p out) .outcomes) i 0
+            at i = elim (decLt i (tasks t)) [
+              | yes h ↦ by-test (λ (z : ℕ). z ≡ cond (p i) (out i) (outcomeOf t i)) (p i) (λ q. rw q (same i q)) (λ q. rw q refl)
+                  ∙ sym (getD-edit (λ j x. cond (p j) (out j) x) 0 (t .outcomes) i (omega (arith, F .outcome-column)))
+              | no h ↦ by-test (λ (z : ℕ). z ≡ getD ((endWaits t p out) .outcomes) i 0) (p i)
+                  (λ q. absurd (h (wait-in t F i (omega (arith, named i q)))))
+                  (λ q. List·getD-eq-default (t .outcomes) 0 (omega (arith, F .outcome-column))
+                  ∙ sym (List·getD-eq-default ((endWaits t p out) .outcomes) 0 (omega (arith, length-edit (λ j x. cond (p j) (out j) x) (t .outcomes), F .outcome-column))))
+            ]
+
+      module _ (c slept other : ℕ) (same : (i : ℕ) → p i ≡ true → cond (eqb (kindCode (waitOf t i)) onTime) slept other ≡ out i) where
+        pub tasks-ended : endedWhere (packTasks t c) flags slept other maxTasks ≡ withLevel (packTasks (endWaits t p out) c) (levelColumn t)
+        unfolding packTasks levelColumn kindCode objectCode timedCode dueCode
+        tasks-ended = ended-columns (packTasks t c) flags slept other maxTasks (omega arith)
+            ∙ same-columns (packTasks t c) (ended-code (dueCode c) refl)
+            (ended-outcome (leftOutcome (packTasks t c) slept other) (λ i e. ap (λ z. cond (eqb z onTime) slept other) (wait-code t kindCode i refl) ∙ same i e))
+            (ended-code kindCode refl) (ended-code objectCode refl) (ended-code timedCode refl)
+
+pub woke-pack : (s : Model) → Facts (s .tables) → (p : ℕ → Bool) → ((i : ℕ) → p i ≡ true → waitCount (waitOf (s .tables) i) ≡ 1) → (flags : List ℕ) → Flags flags p
+    → (out : ℕ → ℕ) (slept other : ℕ) → ((i : ℕ) → p i ≡ true → cond (eqb (kindCode (waitOf (s .tables) i)) onTime) slept other ≡ out i)
+    → woke (pack s) flags slept other ≡ packWith (levelColumn (s .tables)) (withTables s (endWaits (s .tables) p out))
+unfolding woke pack packWith packSemaphores packMutexes
+woke-pack s F p named flags fl out slept other same =
+    ap (λ z. withWaiting (withTasks (pack s) z) (kept ((pack s) .waiting) flags 0)) (tasks-ended (s .tables) F p named flags fl out (s .clock) slept other same)
+    ∙ ap (λ z. withWaiting (withTasks (pack s) (withLevel (packTasks (endWaits (s .tables) p out) (s .clock)) (levelColumn (s .tables)))) z) (kept-ended (s .tables) F p named flags fl)
+
+-- a wait that begins, as it stands in the places of a task
+timed-for : (a : Awaited) (t : ℕ) → timedFor t ≡ timedCode (some (waitFor a t))
+unfolding timedFor timedCode ticksOf someb
+timed-for a t = elim (which (eqb t forever)) [ inl e ↦ rw e refl | inr e ↦ rw e refl ]
+
+due-for : (a : Awaited) (c t : ℕ) → dueFor c t ≡ dueCode c (some (waitFor a t))
+unfolding dueFor dueCode leftCode ticksOf
+due-for a c t = elim (which (eqb t forever)) [ inl e ↦ rw e refl | inr e ↦ rw e refl ]
+
+module _ (t : Tables) (F : Facts t) (r : ℕ) (h : r < tasks t) where
+  begun-code : (f : Option Wait → ℕ) (w : Wait) {v : ℕ} → v ≡ f (some w) → set (pad maxTasks 0 (map f (t .waits))) r v ≡ pad maxTasks 0 (map f (set (t .waits) r (some w)))
+  begun-code f w e = ap (set (pad maxTasks 0 (map f (t .waits))) r) e
+      ∙ pad-set maxTasks 0 (map f (t .waits)) r (f (some w)) (omega (arith, length-map (t .waits) f, F .wait-column)) ∙ ap (pad maxTasks 0) (sym (map-set f (t .waits) r (some w)))
+
+  tasks-begun : (c : ℕ) (a : Awaited) (x : ℕ)
+      → waitBegun (packTasks t c) r (awaitedKind a) (awaitedObject a) (timedFor x) (dueFor c x) ≡ withLevel (packTasks (beginWait t r (waitFor a x)) c) (levelColumn t)
+  unfolding packTasks levelColumn waitBegun kindCode objectCode
+  tasks-begun c a x = chosen _ _ _ (lt-ltb r maxTasks (omega (arith, F .few-tasks)))
+      ∙ same-columns (packTasks t c) (begun-code (dueCode c) (waitFor a x) (due-for a c x)) (pad-set maxTasks 0 (t .outcomes) r pending (omega (arith, F .outcome-column)))
+      (begun-code kindCode (waitFor a x) refl) (begun-code objectCode (waitFor a x) refl) (begun-code timedCode (waitFor a x) (timed-for a x))
+
+-- the caller waits
+module _ (s : Model) (I : Inv s) (r : ℕ) (run : s .running ≡ some r) where
+  waiting-short : suc (length (s .tables .waiting)) ≤ tasks (s .tables)
+  unfolding occ
+  waiting-short = pigeonhole (tasks (s .tables)) (r ∷ s .tables .waiting)
+      (λ y. omega (arith, I .places y, ap (λ o. occ y (opt o)) run, below-le y (tasks (s .tables))))
+      (λ y m. in-below y (tasks (s .tables)) (omega (arith, I .places y, ap (λ o. occ y (opt o)) run)))
+
+  pub blocked-pack : (a : Awaited) (x : ℕ)
+      → blockedOn (pack s) r (awaitedKind a) (awaitedObject a) x ≡ packWith (levelColumn (s .tables)) (placed (withTables s (beginWait (s .tables) r (waitFor a x))) none (s .ready))
+  unfolding blockedOn pack packWith packMutexes packSemaphores idOf
+  blocked-pack a x =
+      ap (λ z. withRunning (withWaiting (withTasks (pack s) z) (pushed ((pack s) .waiting) r)) noId) (tasks-begun (s .tables) (I .facts) r (caller-in s I r run) (s .clock) a x)
+      ∙ ap (λ z. withRunning (withWaiting (withTasks (pack s) (withLevel (packTasks (beginWait (s .tables) r (waitFor a x)) (s .clock)) (levelColumn (s .tables)))) z) noId)
+      (push-queueOf (s .tables .waiting) r (omega (arith, waiting-short, I .facts .few-tasks)))

@@ -1,0 +1,14 @@
+pub mod Machine
+pub mod StageLaws
+pub mod DispatchLaws
+pub mod FlagLaws
+pub mod WaitLaws
+pub mod EffectLaws
+pub mod ObjectLaws
+pub mod RowLaws
+pub mod FinishLaws
+pub mod PlainStepLaws
+pub mod WaitStepLaws
+pub mod LockStepLaws
+pub mod TickStepLaws
+pub mod MachineLaws

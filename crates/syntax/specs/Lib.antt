@@ -1,0 +1,13 @@
+-- Definitions first, then the laws of them.
+pub mod Ascii
+pub mod Form
+pub mod Reading
+pub mod LogLine
+pub mod Written
+pub mod Examples
+pub mod SameLaws
+pub mod FormLaws
+pub mod LineLaws
+pub mod WrittenLaws
+pub mod PutLaws
+pub mod LogLineLaws
