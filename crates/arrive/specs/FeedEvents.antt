@@ -10,7 +10,6 @@ use lib.Seq.{length-take-le}
 use borrow.Author.Tests.{le-leb, lt-leb, leb-true, leb-false, ltb-true, ltb-false, eqb-true, eqb-false}
 use Rattle.text.specs.Place.{room, putBytes}
 use Rattle.text.specs.PlaceLaws.{put-laid, put-kept, take-laid, length-put}
-use Rattle.arrive.specs.declared.Found.the-variants as found
 use Rattle.arrive.specs.Feed.{begunOf, keptLen, lineFound, lineCarry, fed, carryAfter, lastFound, eventsOf}
 use Rattle.text.specs.Lines.{lf, lineFrom, lineEnd}
 use Rattle.text.specs.Cut.{upTo}

@@ -11,7 +11,6 @@ use Rattle.text.specs.declared.place.Put.the-variants.{Next, Full}
 use Rattle.arrive.specs.declared.Found.the-variants as found
 use Rattle.arrive.specs.Feed.{keptLen, lineFound, lineCarry, fed, carryAfter}
 use Rattle.text.specs.Lines.{lineFrom, lineEnd}
-use Rattle.arrive.specs.Arrive.{Long}
 use Rattle.lists.specs.TestLaws.{which}
 
 module _ (carry : List ℕ) (held : ℕ) (part : List ℕ) where

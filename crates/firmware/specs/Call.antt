@@ -6,7 +6,6 @@ use Rattle.record.specs.StepRecord.{stays, stepOf}
 use Rattle.record.specs.DemandRecord.{standingIn}
 use Rattle.record.specs.declared.State.{State}  -- keep
 use Rattle.record.specs.declared.Out.{Out}  -- keep
-use Rattle.record.specs.declared.Request.{Request}  -- keep
 use Rattle.record.specs.declared.Request.the-variants.{Task, Mutex, Sem, Start, Lock, Unlock, Pend, Post, Flush, Sleep, Yield, Hold, Free, Tick, Level, Outcome}  -- keep
 use Rattle.firmware.specs.declared.Asked.{Asked}  -- keep
 use Rattle.firmware.specs.declared.Asked.the-variants.{Step, Nothing}  -- keep

@@ -4,8 +4,7 @@ ghost use Prim.Native.Nat.{_≤_};
 ghost use lib.Dec.{eqb};
 ghost use lib.ListN.{length};
 ghost use Rattle.lists.specs.Test.{_and_};
-ghost use Rattle.lists.specs.Order.{ascb, tiesb, inside};
-ghost use Rattle.queues.specs.Queue.{items, keyOf, restEmpty, pushed, placeOf, inserted, insertedAt, kept, insertedIf, insertedFlagged, counted, bestOf, waitsFor};
+ghost use Rattle.queues.specs.Queue.{items, keyOf, pushed, placeOf, inserted, insertedAt, kept, insertedIf, insertedFlagged, bestOf, waitsFor};
 
 // How many places a queue has.
 pub const PLACES: usize = 16;
@@ -146,83 +145,6 @@ pub fn insert_flagged(q: Queue, keys: [u8; PLACES], flags: [u8; PLACES], n: u8) 
         r = insert_if(r, keys, flags, id);
     }
     r
-}
-
-// The counts, each task's raised by how often it stands in the queue.
-pub fn count_in(c: [u8; PLACES], q: Queue) -> [u8; PLACES]
-    ensures { λ r. ⌜ r ≡ counted c (items q) ⌝ }
-{
-    let n = len(q);
-    let mut r = c;
-    for i in 0..n {
-        let j = q.ids[i] as usize;
-        if j < PLACES {
-            r[j] = std::num::wrapping_add_u8(r[j], 1);
-        }
-    }
-    r
-}
-
-// Do the keys ascend?
-pub fn ascending(q: Queue, keys: [u8; PLACES]) -> bool
-    ensures { λ r. ⌜ r ≡ ascb (keyOf keys) (items q) ⌝ }
-{
-    let n = len(q);
-    let mut i = 1;
-    while i < n {
-        let a = key_of(keys, q.ids[i - 1]);
-        let b = key_of(keys, q.ids[i]);
-        if b < a {
-            return false;
-        }
-        i += 1;
-    }
-    true
-}
-
-// Do neighbours of equal keys stand by id?
-pub fn ties_by_id(q: Queue, keys: [u8; PLACES]) -> bool
-    ensures { λ r. ⌜ r ≡ tiesb (keyOf keys) (items q) ⌝ }
-{
-    let n = len(q);
-    let mut i = 1;
-    while i < n {
-        let x = q.ids[i - 1];
-        let y = q.ids[i];
-        if key_of(keys, x) == key_of(keys, y) {
-            if y <= x {
-                return false;
-            }
-        }
-        i += 1;
-    }
-    true
-}
-
-// Is every id below `n`?
-pub fn ids_below(q: Queue, n: u8) -> bool
-    ensures { λ r. ⌜ r ≡ inside n (items q) ⌝ }
-{
-    let m = len(q);
-    for i in 0..m {
-        if n <= q.ids[i] {
-            return false;
-        }
-    }
-    true
-}
-
-// Are the unused places empty?
-pub fn rest_empty(q: Queue) -> bool
-    ensures { λ r. ⌜ r ≡ restEmpty q ⌝ }
-{
-    let n = len(q);
-    for i in n..PLACES {
-        if q.ids[i] != NONE {
-            return false;
-        }
-    }
-    true
 }
 
 // The best waiter for an object: the first found going through the levels and, in a level, oldest wait first; NONE where nobody waits.

@@ -5,7 +5,6 @@ use lib.ListN.{length, getD}
 use Rattle.rules.specs.Sizes.{maxTasks, maxMutexes, maxSemaphores, wordSize}
 use Rattle.queues.specs.Queue.{places}
 use Rattle.record.specs.declared.State.{State}  -- keep
-use Rattle.rules.specs.State.{State as Model}  -- keep
 
 -- what holds of every value of the record's type: arrays have their lengths, and numbers fit
 pub record Typed (k : State) : Type 0 where

@@ -10,7 +10,7 @@ use lib.Dec.{eqb, leb}
 use lib.ListN.{length}
 use borrow.Author.Tests.{eqb-true, leb-false, lt-leb}
 use Rattle.lists.specs.TestLaws.{which, by-test}
-use Rattle.arrive.specs.Arrive.{Event, Line, Long, Begun, Held, grown, events, marked}
+use Rattle.arrive.specs.Arrive.{Event, Line, Begun, Held, grown, events, marked}
 use Rattle.arrive.specs.Calls.{pieceCalls, allHanded}
 use Rattle.arrive.specs.CallsLaws.{calls-right, handed-lines}
 use Rattle.text.specs.Cut.{pieces}

@@ -19,7 +19,6 @@ use Rattle.record.specs.declared.State.{State}  -- keep
 use Rattle.record.specs.declared.Tasks.{Tasks}  -- keep
 use Rattle.record.specs.declared.Mutexes.{Mutexes}  -- keep
 use Rattle.record.specs.declared.Semaphores.{Semaphores}  -- keep
-use Rattle.queues.specs.declared.Queue.{Queue}  -- keep
 
 -- ranges
 unfoldable pub prioritiesIn : Tasks → Bool

@@ -188,10 +188,10 @@ fn places_in(s: State) -> bool
     ensures { λ r. ⌜ r ≡ placesIn s ⌝ }
 {
     let n = s.tasks.n;
-    if !queues::ids_below(s.waiting, n) {
+    if !queue_checks::ids_below(s.waiting, n) {
         return false;
     }
-    if !queues::ids_below(s.ready, n) {
+    if !queue_checks::ids_below(s.ready, n) {
         return false;
     }
     if s.running != NONE {
@@ -199,8 +199,8 @@ fn places_in(s: State) -> bool
             return false;
         }
     }
-    let waits = queues::count_in([0u8; TASKS], s.waiting);
-    let all = queues::count_in(waits, s.ready);
+    let waits = queue_checks::count_in([0u8; TASKS], s.waiting);
+    let all = queue_checks::count_in(waits, s.ready);
     for i in 0..n {
         if !place_at(s, waits, all, i) {
             return false;
@@ -303,7 +303,7 @@ fn set_up_in(s: State) -> bool
     }
     let t = s.tasks;
     let levels = t.level;
-    queues::ties_by_id(s.ready, levels)
+    queue_checks::ties_by_id(s.ready, levels)
 }
 
 // What a started record or one in set-up owes.
@@ -346,7 +346,7 @@ pub fn check(s: State) -> bool
     }
     let t = s.tasks;
     let levels = t.level;
-    if !queues::ascending(s.ready, levels) {
+    if !queue_checks::ascending(s.ready, levels) {
         return false;
     }
     phase_in(s)

@@ -169,7 +169,7 @@ fn queue_tidy(q: Queue) -> bool
     if MAX_TASKS < q.n {
         return false;
     }
-    queues::rest_empty(q)
+    queue_checks::rest_empty(q)
 }
 
 // "Unused table places as in the fresh state", and absent fields too.

@@ -1,18 +1,15 @@
 -- One turn and the end of each loop over the tasks, for each definition that the contracts cite.
-use mathlib.Core.Path.{_≡_, refl, ap, sym, _∙_}
-use mathlib.Core.List.{List, [], _∷_, _++_}
+use mathlib.Core.Path.{_≡_, refl, ap, sym}
+use mathlib.Core.List.{List}
 use mathlib.Core.Bool.{Bool, true, false, not}
 use mathlib.Core.Logic.{inl, inr}
-use Prim.Native.Nat.{ℕ, zero, suc, _+_, _≤_, _<_}
-use native.Mathlib.Omega.{arith}
+use Prim.Native.Nat.{ℕ, _+_, _<_}
 use native.Mathlib.Numerals.{add-one}
 use borrow.Author.Tests.{eq-eqb, ne-eqb}
 use lib.Dec.{eqb}
-use lib.ListN.{length, getD, set, drop, replicate}
+use lib.ListN.{getD}
 use Rattle.lists.specs.Test.{allb}
-use Rattle.lists.specs.Table.{filled}
 use Rattle.lists.specs.TestLaws.{which, clash, true-and, all-true}
-use Rattle.lists.specs.TableLaws.{fill-step, fill-end}
 use Rattle.rules.specs.Sizes.{maxTasks}
 use Rattle.steps.specs.Machine.{endedIf, endedWhere, anyFlag}
 use Rattle.record.specs.declared.Tasks.{Tasks}

@@ -35,7 +35,6 @@ use Rattle.steps.specs.Machine.{waitBegun, endedWhere, woke, timedFor, d
 use Rattle.record.specs.PackLaws.{levelColumn, packWith}
 use Rattle.record.specs.ColumnLaws.{chosen, map-set, wait-code}
 use Rattle.steps.specs.FlagLaws.{Flags, flag-one, flag-zero, setWhere, set-column, leftOutcome, ended-columns}
-use Rattle.record.specs.declared.State.{State}  -- keep
 use Rattle.record.specs.declared.Tasks.{Tasks}  -- keep
 use Rattle.record.specs.Setters.{withWaiting, withClock, withMutexes, withSemaphores, withRunning}  -- keep
 use Rattle.rules.specs.State.{State as Model, levelOf, placed, withTables, withClock as setClock}  -- keep

@@ -22,7 +22,6 @@ use Rattle.steps.specs.Machine.{settled, dispatched, lined}
 use Rattle.record.specs.PackLaws.{levelColumn, packWith}
 use Rattle.steps.specs.StageLaws.{unchanged-pack, settle-pack, lined-pack}
 use Rattle.steps.specs.DispatchLaws.{dispatch-pack}
-use Rattle.record.specs.declared.State.{State}  -- keep
 use Rattle.rules.specs.State.{State as Model, levelOf, placed, withTables, withClock, withHold}  -- keep
 use Rattle.rules.specs.Tables.{Tables, tasks}  -- keep
 

@@ -24,7 +24,6 @@ use Rattle.steps.specs.Machine.{waitEnded, endedIf, endedWhere, single}
 use Rattle.steps.specs.DispatchLaws.{single-at}
 use Rattle.record.specs.declared.Tasks.{Tasks}  -- keep
 use Rattle.queues.specs.declared.Queue.{Queue}  -- keep
-use Rattle.rules.specs.Tables.{Tables, Wait, Awaited, mutexOf, semOf, time, tasks, waitOf}  -- keep
 
 -- flags name who passes the test
 abbrev pub Flags : List ℕ → (ℕ → Bool) → Type 0

@@ -39,7 +39,6 @@ use Rattle.steps.specs.ObjectLaws.{owner-set, level-same, lends-give}
 use Rattle.steps.specs.RowLaws.{ruled, by-rows, on-row, on-accept, called-some, id-some, running-below, on-caller}
 use Rattle.steps.specs.FinishLaws.{quiet-pack, settled-finish}
 use Rattle.steps.specs.WaitStepLaws.{may-wait, time-test, best-named, best-in, best-below}
-use Rattle.record.specs.declared.State.{State}  -- keep
 use Rattle.record.specs.declared.Out.{Out}  -- keep
 use Rattle.record.specs.Setters.{withMutexes}  -- keep
 use Rattle.steps.specs.Machine.{passed}  -- keep

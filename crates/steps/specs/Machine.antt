@@ -1,19 +1,18 @@
 -- The code's own functions over the record, case by case as the code goes. A reader need not believe them: MachineLaws show them equal to the packed rules.
 use mathlib.Core.List.{List}
 use mathlib.Core.Bool.{Bool, true, cond, not}
-use Prim.Native.Nat.{ℕ, zero, suc, _+_, _-_, min}
+use Prim.Native.Nat.{ℕ, zero, suc, _+_, _-_}
 use lib.Dec.{ltb, leb, eqb}
 use lib.ListN.{length, getD, set, replicate}
 use Rattle.lists.specs.Test.{allb}
 use Rattle.lists.specs.Count.{member}
 use Rattle.lists.specs.Order.{before}
 use Rattle.lists.specs.Table.{filled}
-use Rattle.rules.specs.Sizes.{maxTasks, maxMutexes, maxSemaphores, levels, kinds, inheriting, maxHold, maxTicks, forever, granted, pending, timedOut, flushed}
-use Rattle.rules.specs.Tables.{tasks, mutexes, semaphores}
-use Rattle.rules.specs.Step.{hold, level, outcome}
+use Rattle.rules.specs.Sizes.{maxTasks, maxMutexes, maxSemaphores, levels, kinds, maxHold, maxTicks, forever, granted, pending, timedOut, flushed}
+use Rattle.rules.specs.Step.{level, outcome}
 use Rattle.rules.specs.Effect.{due}
 use Rattle.queues.specs.Queue.{noId, items, keyOf, pushed, inserted, kept, insertedFlagged, counted, bestOf}
-use Rattle.walks.specs.Walk.{raised, chainFrom}
+use Rattle.walks.specs.Walk.{chainFrom}
 use Rattle.record.specs.Record.{ticksLeft, dueAt, onMutex, onSemaphore, onTime}
 use Rattle.record.specs.declared.State.{State}  -- keep
 use Rattle.record.specs.declared.Tasks.{Tasks}  -- keep
@@ -23,7 +22,7 @@ use Rattle.queues.specs.declared.Queue.{Queue}  -- keep
 use Rattle.record.specs.declared.Out.{Out}  -- keep
 use Rattle.record.specs.declared.Answer.the-variants.{Accepted, Refused}  -- keep
 use Rattle.record.specs.Setters.{withTasks, withSemaphores, withClock, withMutexes, withReady, withWaiting, withStarted, withHold, withRunning, withLevel}
-use Rattle.record.specs.Reads.{dueOf, ownerAt, kindAt, nextAt, lendsAt, newLevels, countAt, maximumAt, firstId}
+use Rattle.record.specs.Reads.{ownerAt, nextAt, newLevels, countAt, maximumAt, firstId}
 
 unfoldable pub waitBegun : Tasks → ℕ → ℕ → ℕ → ℕ → ℕ → Tasks
 waitBegun t i kind object timed due = cond (ltb i maxTasks) (record {

@@ -36,8 +36,6 @@ use Rattle.steps.specs.FlagLaws.{flag-one, single-flags, member-one, fla
 use Rattle.steps.specs.ObjectLaws.{mutex-added, sem-added, level-same, lends-none, made-level, old-level, task-added}
 use Rattle.steps.specs.RowLaws.{by-rows, on-row, on-accept, held-on, held-off, either, called-some, id-some, running-below, on-caller, on-set-up}
 use Rattle.steps.specs.FinishLaws.{dispatch-still, quiet-pack, lined-finish, unchanged-finish}
-use Rattle.record.specs.declared.State.{State}  -- keep
-use Rattle.record.specs.declared.Out.{Out}  -- keep
 use Rattle.record.specs.Setters.{withReady, withRunning, withMutexes, withSemaphores, withTasks}  -- keep
 use Rattle.rules.specs.State.{State as Model, levelOf, placed, withTables}  -- keep
 use Rattle.rules.specs.State.{withHold as setHold, withClock as setClock, withStarted as setStarted}  -- keep

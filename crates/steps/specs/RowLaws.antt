@@ -23,7 +23,6 @@ use Rattle.record.specs.ColumnLaws.{chosen, skipped}
 use Rattle.record.specs.declared.State.{State}  -- keep
 use Rattle.record.specs.declared.Out.{Out}  -- keep
 use Rattle.rules.specs.State.{State as Model, levelOf}  -- keep
-use Rattle.rules.specs.Tables.{tasks}  -- keep
 use Rattle.rules.specs.Step.{Step}  -- keep
 use Rattle.rules.specs.Answer.{decide, accepted, stepSound}  -- keep
 

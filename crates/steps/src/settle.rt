@@ -14,7 +14,7 @@ fn resettle(q: Queue, old: [u8; TASKS], new: [u8; TASKS], woken: [u8; TASKS], n:
     ensures { λ r. ⌜ r ≡ resettled q old new woken n ⌝ }
 {
     let changed = tables::differ(old, new);
-    let there = queues::count_in([0u8; TASKS], q);
+    let there = queue_checks::count_in([0u8; TASKS], q);
     let moved = tables::both(changed, there);
     let stay = queues::keep_flagged(q, changed, 0);
     let back = queues::insert_flagged(stay, new, moved, n);

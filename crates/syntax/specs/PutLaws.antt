@@ -10,7 +10,6 @@ use borrow.Author.Tests.{le-leb}
 use Rattle.lists.specs.TestLaws.{which}
 use Rattle.text.specs.Place.{room, putAnswer, putBytes}
 use Rattle.text.specs.PlaceLaws.{put-next, put-laid}
-use Rattle.text.specs.declared.place.Put.{Put}  -- keep
 use Rattle.text.specs.declared.place.Put.the-variants.{Next, Full}  -- keep
 use Rattle.syntax.specs.LogLine.{placeAfter}
 

@@ -4,10 +4,6 @@ use mathlib.Core.Path.{_≡_}
 use lib.ListN.{length}
 use Rattle.cungkalisa.proofs.main.Statement.{statement}
 use Rattle.cungkalisa.proofs.main.Tie as tie
-use Rattle.cungkalisa.proofs.main.Reads as reads
-use Rattle.cungkalisa.proofs.main.Lts as lts
-use Rattle.cungkalisa.proofs.one_turn.Reads as one-turn-reads
-use Rattle.script.proofs.session.begin.Reads as begin-reads
 
 abbrev Inv-loop : tie.InvT-loop
 Inv-loop carry₀ piece₀ log₀ s₀ turns₀ carry piece log s turns = (length carry ≡ 80) × (length piece ≡ 1536) × (length log ≡ 50688)

@@ -1,14 +1,11 @@
 -- `standing`: by the test of the record, and by whether the id is a task's.
-use mathlib.Core.Path.{_≡_, refl, ap, sym, _∙_}
+use mathlib.Core.Path.{sym, _∙_}
 use borrow.Author.Tests.{lt-ltb, le-ltb}
 use Rattle.queues.specs.Queue.{idOf}
 use Rattle.record.specs.DemandRecord.{standingIn}
 use borrow.Author.Needs.{needs}
 use Rattle.kernel.proofs.standing.Statement.{statement}
 use Rattle.kernel.proofs.standing.Tie as tie
-use Rattle.kernel.proofs.standing.Reads as reads
-use Rattle.kernel.proofs.standing.Lts as lts
-use Rattle.sound.proofs.is_sound.Reads as is-sound-reads
 
 is-sound-requires : tie.Need-is-sound-requires
 is-sound-requires c κs = search needs

@@ -1,17 +1,11 @@
 -- `step`: on a sound record what the machine answers, which is what the rules answer; else 15.
-use mathlib.Core.Path.{_≡_, sym, _∙_}
-use mathlib.Core.Bool.{true}
-use Rattle.record.specs.SoundRecord.{soundOf}
+use mathlib.Core.Path.{sym, _∙_}
 use Rattle.record.specs.StepRecord.{stays, stepOf}
 use Rattle.queues.specs.Queue.{idOf}
 use Rattle.steps.specs.MachineLaws.{sound-step}
 use borrow.Author.Needs.{needs}
 use Rattle.kernel.proofs.step.Statement.{statement}
 use Rattle.kernel.proofs.step.Tie as tie
-use Rattle.kernel.proofs.step.Reads as reads
-use Rattle.kernel.proofs.step.Lts as lts
-use Rattle.steps.proofs.perform.Reads as perform-reads
-use Rattle.sound.proofs.is_sound.Reads as is-sound-reads
 
 is-sound-requires : tie.Need-is-sound-requires
 is-sound-requires c κs = search needs

@@ -3,9 +3,6 @@ use Rattle.record.specs.StepRecord.{stays}
 use borrow.Author.Needs.{needs}
 use Rattle.kernel.proofs.stopped.Statement.{statement}
 use Rattle.kernel.proofs.stopped.Tie as tie
-use Rattle.kernel.proofs.stopped.Reads as reads
-use Rattle.kernel.proofs.stopped.Lts as lts
-use Rattle.kernel.proofs.standing.Reads as standing-reads
 
 standing-requires : tie.Need-standing-requires
 standing-requires c κs = search needs

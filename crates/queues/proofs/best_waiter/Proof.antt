@@ -7,7 +7,8 @@ use lib.ListN.{length, drop}
 use Rattle.lists.specs.Order.{keep, firstAt, firstFrom}
 use Rattle.rules.specs.Sizes.{levels}
 use Rattle.queues.specs.Queue.{items, keyOf, bestOf, waitsFor, idOf, places}
-use Rattle.queues.proofs.Laws.{items-few, first-hit, first-miss, first-end, from-hit, from-miss, from-end}
+use Rattle.queues.specs.ItemLaws.{items-few}
+use Rattle.queues.proofs.Laws.{first-hit, first-miss, first-end, from-hit, from-miss, from-end}
 use Rattle.queues.proofs.best_waiter.Statement.{statement}
 use Rattle.queues.proofs.best_waiter.Tie as tie
 

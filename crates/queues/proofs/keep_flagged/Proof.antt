@@ -12,7 +12,8 @@ use lib.Seq.{take-length}
 use Rattle.lists.specs.Order.{keep}
 use Rattle.queues.specs.Queue.{items, queueOf, keyOf, pushed, kept, places}
 use Rattle.queues.specs.declared.Queue.{Queue}
-use Rattle.queues.proofs.Laws.{items-few, keep-start, keep-on, keep-off}
+use Rattle.queues.specs.ItemLaws.{items-few}
+use Rattle.queues.proofs.Laws.{keep-start, keep-on, keep-off}
 use Rattle.queues.proofs.keep_flagged.Statement.{statement}
 use Rattle.queues.proofs.keep_flagged.Tie as tie
 

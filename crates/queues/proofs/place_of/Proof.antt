@@ -5,7 +5,8 @@ use Prim.Native.Nat.{_+_, _-_, _≤_}
 use native.Mathlib.Omega.{arith}
 use lib.ListN.{length, drop}
 use Rattle.queues.specs.Queue.{items, placeOf, places}
-use Rattle.queues.proofs.Laws.{items-few, place-hit, place-miss, place-end}
+use Rattle.queues.specs.ItemLaws.{items-few}
+use Rattle.queues.proofs.Laws.{place-hit, place-miss, place-end}
 use Rattle.queues.proofs.place_of.Statement.{statement}
 use Rattle.queues.proofs.place_of.Tie as tie
 

@@ -5,9 +5,6 @@ use Rattle.sound.proofs.Facts.{due-word}
 use borrow.Author.Needs.{needs}
 use Rattle.sound.proofs.is_sound.Statement.{statement}
 use Rattle.sound.proofs.is_sound.Tie as tie
-use Rattle.sound.proofs.is_sound.Reads as reads
-use Rattle.sound.proofs.is_sound.Lts as lts
-use Rattle.sound.proofs.phrases.check.Reads as check-reads
 
 check-requires : tie.Need-check-requires
 check-requires c κs = search needs

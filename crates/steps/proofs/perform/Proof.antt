@@ -2,24 +2,6 @@ use Rattle.steps.specs.MachineLaws.{machineStep}
 use borrow.Author.Needs.{needs}
 use Rattle.steps.proofs.perform.Statement.{statement}
 use Rattle.steps.proofs.perform.Tie as tie
-use Rattle.steps.proofs.perform.Reads as reads
-use Rattle.steps.proofs.perform.Lts as lts
-use Rattle.steps.proofs.waits.flush.Reads as flush-reads
-use Rattle.steps.proofs.plain.free.Reads as free-reads
-use Rattle.steps.proofs.plain.hold.Reads as hold-reads
-use Rattle.steps.proofs.plain.level.Reads as level-reads
-use Rattle.steps.proofs.waits.lock.Reads as lock-reads
-use Rattle.steps.proofs.plain.mutex.Reads as mutex-reads
-use Rattle.steps.proofs.plain.outcome.Reads as outcome-reads
-use Rattle.steps.proofs.waits.pend.Reads as pend-reads
-use Rattle.steps.proofs.waits.post.Reads as post-reads
-use Rattle.steps.proofs.plain.sem.Reads as sem-reads
-use Rattle.steps.proofs.waits.sleep.Reads as sleep-reads
-use Rattle.steps.proofs.plain.start.Reads as start-reads
-use Rattle.steps.proofs.plain.task.Reads as task-reads
-use Rattle.steps.proofs.plain.tick.Reads as tick-reads
-use Rattle.steps.proofs.waits.unlock.Reads as unlock-reads
-use Rattle.steps.proofs.plain.yield_now.Reads as yield-now-reads
 
 enum-known-x : tie.Need-enum-known-x
 enum-known-x c = search needs

@@ -2,9 +2,6 @@ use Rattle.record.specs.StepRecord.{numberOf, valueOf, runOf}
 use borrow.Author.Needs.{needs}
 use Rattle.firmware.proofs.answers.answer_code.Statement.{statement}
 use Rattle.firmware.proofs.answers.answer_code.Tie as tie
-use Rattle.firmware.proofs.answers.answer_code.Reads as reads
-use Rattle.firmware.proofs.answers.answer_code.Lts as lts
-use Rattle.firmware.proofs.answers.join.Reads as join-reads
 
 -- src/answers.rt:19:28
 enum-known-x : tie.Need-enum-known-x

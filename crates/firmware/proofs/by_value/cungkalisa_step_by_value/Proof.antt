@@ -4,11 +4,6 @@ use Rattle.record.specs.declared.Out.{Out}
 use Rattle.firmware.specs.Packed.{Carries}
 use Rattle.firmware.proofs.by_value.cungkalisa_step_by_value.Statement.{statement}
 use Rattle.firmware.proofs.by_value.cungkalisa_step_by_value.Tie as tie
-use Rattle.firmware.proofs.by_value.cungkalisa_step_by_value.Reads as reads
-use Rattle.firmware.proofs.by_value.cungkalisa_step_by_value.Lts as lts
-use Rattle.firmware.proofs.by_value.code_of.Reads as code-of-reads
-use Rattle.firmware.proofs.by_value.made.Reads as made-reads
-use Rattle.firmware.proofs.by_value.state_of.Reads as state-of-reads
 
 -- src/by_value.rt:37:9
 made-requires : tie.Need-made-requires

@@ -3,10 +3,6 @@ use Rattle.firmware.specs.Call.{callOf}
 use borrow.Author.Needs.{needs}
 use Rattle.firmware.proofs.by_value.made.Statement.{statement}
 use Rattle.firmware.proofs.by_value.made.Tie as tie
-use Rattle.firmware.proofs.by_value.made.Reads as reads
-use Rattle.firmware.proofs.by_value.made.Lts as lts
-use Rattle.firmware.proofs.calls.call.Reads as call-reads
-use Rattle.firmware.proofs.calls.request_of.Reads as request-of-reads
 
 -- src/by_value.rt:15:20
 request-of-requires : tie.Need-request-of-requires

@@ -3,10 +3,6 @@ use Rattle.firmware.specs.Call.{callOf}
 use borrow.Author.Needs.{needs}
 use Rattle.firmware.proofs.calls.call.Statement.{statement}
 use Rattle.firmware.proofs.calls.call.Tie as tie
-use Rattle.firmware.proofs.calls.call.Reads as reads
-use Rattle.firmware.proofs.calls.call.Lts as lts
-use Rattle.kernel.proofs.stopped.Reads as stopped-reads
-use Rattle.kernel.proofs.step.Reads as step-reads
 
 enum-known-x : tie.Need-enum-known-x
 enum-known-x c = search needs

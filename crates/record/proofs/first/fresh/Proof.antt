@@ -6,8 +6,6 @@ use Rattle.record.specs.Record.{packTasks, packMutexes, packSemaphores, 
 use Rattle.record.specs.DemandRecord.{freshRecord}
 use Rattle.record.proofs.first.fresh.Statement.{statement}
 use Rattle.record.proofs.first.fresh.Tie as tie
-use Rattle.record.proofs.first.fresh.Reads as reads
-use Rattle.record.proofs.first.fresh.Lts as lts
 
 returns : tie.Need-returns
 unfolding freshRecord fresh pack packTasks packMutexes packSemaphores pad filled queueOf idOf

@@ -4,10 +4,6 @@ use Rattle.script.specs.LineRun.{ranLine, memoryLine}
 use borrow.Author.Needs.{needs}
 use Rattle.script.proofs.lent.run_at.Statement.{statement}
 use Rattle.script.proofs.lent.run_at.Tie as tie
-use Rattle.script.proofs.lent.run_at.Reads as reads
-use Rattle.script.proofs.lent.run_at.Lts as lts
-use Rattle.reader.proofs.line_at.Reads as line-at-reads
-use Rattle.script.proofs.run.run_line.Reads as run-line-reads
 
 -- src/lent.rt:14:9
 line-at-requires : tie.Need-line-at-requires

@@ -4,11 +4,6 @@ use mathlib.Core.Path.{sym, _∙_}
 use Rattle.script.specs.LineRunLaws.{read-made, read-none}
 use Rattle.script.proofs.run.answer_line.Statement.{statement}
 use Rattle.script.proofs.run.answer_line.Tie as tie
-use Rattle.script.proofs.run.answer_line.Reads as reads
-use Rattle.script.proofs.run.answer_line.Lts as lts
-use Rattle.kernel.proofs.step.Reads as step-reads
-use Rattle.syntax.proofs.read.read_line.Reads as read-line-reads
-use Rattle.kernel.proofs.stopped.Reads as stopped-reads
 
 read-line-requires : tie.Need-read-line-requires
 read-line-requires c κs = search needs

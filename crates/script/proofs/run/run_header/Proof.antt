@@ -8,11 +8,6 @@ use Rattle.script.specs.LineRunLaws.{head-good, head-bad, headed-next, h
 use borrow.Author.Needs.{needs}
 use Rattle.script.proofs.run.run_header.Statement.{statement}
 use Rattle.script.proofs.run.run_header.Tie as tie
-use Rattle.script.proofs.run.run_header.Reads as reads
-use Rattle.script.proofs.run.run_header.Lts as lts
-use Rattle.syntax.proofs.log.write_bad.Reads as write-bad-reads
-use Rattle.syntax.proofs.log.write_header.Reads as write-header-reads
-use Rattle.syntax.proofs.read.same.Reads as same-reads
 
 slice-aggregate-same : tie.Need-slice-aggregate-same
 slice-aggregate-same c = search needs

@@ -7,12 +7,6 @@ use Rattle.script.specs.LineRunLaws.{reported-next, reported-full}
 use borrow.Author.Needs.{needs}
 use Rattle.script.proofs.run.run_line.Statement.{statement}
 use Rattle.script.proofs.run.run_line.Tie as tie
-use Rattle.script.proofs.run.run_line.Reads as reads
-use Rattle.script.proofs.run.run_line.Lts as lts
-use Rattle.syntax.proofs.log.write_line.Reads as write-line-reads
-use Rattle.script.proofs.run.answer_line.Reads as answer-line-reads
-use Rattle.script.proofs.run.without_room.Reads as without-room-reads
-use Rattle.script.proofs.run.write_answer.Reads as write-answer-reads
 
 answer-line-requires : tie.Need-answer-line-requires
 answer-line-requires c κs = search needs

@@ -5,9 +5,6 @@ use Rattle.record.specs.StepRecord.{stays}
 use borrow.Author.Needs.{needs}
 use Rattle.script.proofs.run.without_room.Statement.{statement}
 use Rattle.script.proofs.run.without_room.Tie as tie
-use Rattle.script.proofs.run.without_room.Reads as reads
-use Rattle.script.proofs.run.without_room.Lts as lts
-use Rattle.kernel.proofs.stopped.Reads as stopped-reads
 
 stopped-requires : tie.Need-stopped-requires
 stopped-requires c κs = search needs

@@ -3,9 +3,6 @@ use Rattle.record.specs.StepRecord.{numberOf, valueOf, runOf}
 use borrow.Author.Needs.{needs}
 use Rattle.script.proofs.run.write_answer.Statement.{statement}
 use Rattle.script.proofs.run.write_answer.Tie as tie
-use Rattle.script.proofs.run.write_answer.Reads as reads
-use Rattle.script.proofs.run.write_answer.Lts as lts
-use Rattle.syntax.proofs.log.write_line.Reads as write-line-reads
 
 enum-known-a : tie.Need-enum-known-a
 enum-known-a c = search needs

@@ -5,9 +5,6 @@ use Rattle.script.specs.SessionLaws.{end-stands}
 use borrow.Author.Needs.{needs}
 use Rattle.script.proofs.session.end.Statement.{statement}
 use Rattle.script.proofs.session.end.Tie as tie
-use Rattle.script.proofs.session.end.Reads as reads
-use Rattle.script.proofs.session.end.Lts as lts
-use Rattle.script.proofs.session.take_last.Reads as take-last-reads
 
 -- src/session.rt:175:9
 take-last-requires : tie.Need-take-last-requires

@@ -3,10 +3,6 @@ use Rattle.script.specs.SessionLaws.{turn-same, memory-same}
 use borrow.Author.Needs.{needs}
 use Rattle.script.proofs.session.next_line.Statement.{statement}
 use Rattle.script.proofs.session.next_line.Tie as tie
-use Rattle.script.proofs.session.next_line.Reads as reads
-use Rattle.script.proofs.session.next_line.Lts as lts
-use Rattle.script.proofs.session.take_found.Reads as take-found-reads
-use Rattle.arrive.proofs.feed.Reads as feed-reads
 
 -- src/session.rt:95:9
 feed-requires : tie.Need-feed-requires

@@ -5,10 +5,6 @@ use Rattle.script.specs.Session.{taken, takenMemory}
 use borrow.Author.Needs.{needs}
 use Rattle.script.proofs.session.take.Statement.{statement}
 use Rattle.script.proofs.session.take.Tie as tie
-use Rattle.script.proofs.session.take.Reads as reads
-use Rattle.script.proofs.session.take.Lts as lts
-use Rattle.script.proofs.run.run_header.Reads as run-header-reads
-use Rattle.script.proofs.run.run_line.Reads as run-line-reads
 
 -- src/session.rt:48:13
 run-line-requires : tie.Need-run-line-requires

@@ -5,10 +5,6 @@ use Rattle.script.specs.SessionLaws.{nothingb, line-taken, line-memory}
 use borrow.Author.Needs.{needs}
 use Rattle.script.proofs.session.take_found.Statement.{statement}
 use Rattle.script.proofs.session.take_found.Tie as tie
-use Rattle.script.proofs.session.take_found.Reads as reads
-use Rattle.script.proofs.session.take_found.Lts as lts
-use Rattle.script.proofs.session.take.Reads as take-reads
-use Rattle.arrive.proofs.line.Reads as line-reads
 
 -- src/session.rt:76:9
 line-requires : tie.Need-line-requires

@@ -7,11 +7,6 @@ use Rattle.script.specs.SessionLaws.{left-none, left-over, left-line}
 use borrow.Author.Needs.{needs}
 use Rattle.script.proofs.session.take_last.Statement.{statement}
 use Rattle.script.proofs.session.take_last.Tie as tie
-use Rattle.script.proofs.session.take_last.Reads as reads
-use Rattle.script.proofs.session.take_last.Lts as lts
-use Rattle.script.proofs.session.take.Reads as take-reads
-use Rattle.script.proofs.session.take_found.Reads as take-found-reads
-use Rattle.arrive.proofs.finish.Reads as finish-reads
 
 -- src/session.rt:154:9
 slice-aggregate-none : tie.Need-slice-aggregate-none

@@ -1,7 +1,6 @@
 -- `steps::plain::credit` meets its contract.
 use borrow.Author.Needs.{needs}
 use borrow.Author.Tests.{eq-eqb, ne-eqb, le-leb, lt-leb}
-use native.Mathlib.Omega.{arith}
 use Rattle.steps.specs.Machine.{creditStep}
 use Rattle.steps.proofs.waits.credit.Statement.{statement}
 use Rattle.steps.proofs.waits.credit.Tie as tie

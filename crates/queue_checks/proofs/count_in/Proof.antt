@@ -1,14 +1,15 @@
--- `queues::count_in` meets its contract. The loop: what counting the items that are left makes of the counts is what counting all makes of the first.
+-- `queue_checks::count_in` meets its contract. The loop: what counting the items that are left makes of the counts is what counting all makes of the first.
 use borrow.Author.Needs.{needs}
 use mathlib.Core.Path.{_≡_, refl, ap, sym, _∙_}
 use mathlib.Core.Logic.{⊎-elim}
 use Prim.Native.Nat.{_-_, _≤_, _<_}
 use native.Mathlib.Omega.{arith}
 use lib.ListN.{length, drop, length-set}
 use Rattle.queues.specs.Queue.{items, counted, places}
-use Rattle.queues.proofs.Laws.{items-few, counted-step, counted-skip, counted-end}
-use Rattle.queues.proofs.count_in.Statement.{statement}
-use Rattle.queues.proofs.count_in.Tie as tie
+use Rattle.queues.specs.ItemLaws.{items-few}
+use Rattle.queue_checks.proofs.Laws.{counted-step, counted-skip, counted-end}
+use Rattle.queue_checks.proofs.count_in.Statement.{statement}
+use Rattle.queue_checks.proofs.count_in.Tie as tie
 
 abbrev Inv-loop : tie.InvT-loop
 Inv-loop q n r₀ i₀ r i = (i ≤ n) × (length r ≡ places) × (counted r (drop i (items q)) ≡ counted r₀ (items q))

@@ -1,4 +1,4 @@
--- `queues::ties_by_id` meets its contract. The loop: the neighbours passed are in order, so the test of the items from the last one passed on is the test of all.
+-- `queue_checks::ties_by_id` meets its contract. The loop: the neighbours passed are in order, so the test of the items from the last one passed on is the test of all.
 use borrow.Author.Needs.{needs}
 use mathlib.Core.Path.{_≡_, sym, _∙_}
 use mathlib.Core.Logic.{⊎-elim}
@@ -6,10 +6,11 @@ use Prim.Native.Nat.{_-_, _<_}
 use native.Mathlib.Omega.{arith}
 use lib.ListN.{length, drop}
 use Rattle.lists.specs.Order.{tiesb}
 use Rattle.queues.specs.Queue.{items, keyOf, places}
-use Rattle.queues.proofs.Laws.{items-few, tiesb-apart, tiesb-on, tiesb-fail, tiesb-end}
-use Rattle.queues.proofs.ties_by_id.Statement.{statement}
-use Rattle.queues.proofs.ties_by_id.Tie as tie
+use Rattle.queues.specs.ItemLaws.{items-few}
+use Rattle.queue_checks.proofs.Laws.{tiesb-apart, tiesb-on, tiesb-fail, tiesb-end}
+use Rattle.queue_checks.proofs.ties_by_id.Statement.{statement}
+use Rattle.queue_checks.proofs.ties_by_id.Tie as tie
 
 abbrev Inv-loop : tie.InvT-loop
 Inv-loop keys q n i₀ i = (0 < i) × (tiesb (keyOf keys) (drop (i - 1) (items q)) ≡ tiesb (keyOf keys) (items q))

@@ -1,14 +1,15 @@
--- `queues::rest_empty` meets its contract. The loop: every place passed is used or empty.
+-- `queue_checks::rest_empty` meets its contract. The loop: every place passed is used or empty.
 use borrow.Author.Needs.{needs}
 use mathlib.Core.Path.{_≡_, sym}
 use mathlib.Core.Bool.{true}
 use Prim.Native.Nat.{_-_, _≤_}
 use native.Mathlib.Omega.{arith}
 use lib.ListN.{length}
 use Rattle.queues.specs.Queue.{places}
-use Rattle.queues.proofs.Laws.{restUpTo, items-few, rest-start, rest-step, rest-fail}
-use Rattle.queues.proofs.rest_empty.Statement.{statement}
-use Rattle.queues.proofs.rest_empty.Tie as tie
+use Rattle.queues.specs.ItemLaws.{items-few}
+use Rattle.queue_checks.proofs.Laws.{restUpTo, rest-start, rest-step, rest-fail}
+use Rattle.queue_checks.proofs.rest_empty.Statement.{statement}
+use Rattle.queue_checks.proofs.rest_empty.Tie as tie
 
 abbrev Inv-loop : tie.InvT-loop
 Inv-loop q n i₀ i = (n ≤ i) × (i ≤ places) × (restUpTo q i ≡ true)

@@ -1,14 +1,15 @@
--- `queues::ascending` meets its contract. The loop: the neighbours passed are in order, so the test of the items from the last one passed on is the test of all.
+-- `queue_checks::ascending` meets its contract. The loop: the neighbours passed are in order, so the test of the items from the last one passed on is the test of all.
 use borrow.Author.Needs.{needs}
 use mathlib.Core.Path.{_≡_, sym, _∙_}
 use Prim.Native.Nat.{_-_, _<_}
 use native.Mathlib.Omega.{arith}
 use lib.ListN.{length, drop}
 use Rattle.lists.specs.Order.{ascb}
 use Rattle.queues.specs.Queue.{items, keyOf, places}
-use Rattle.queues.proofs.Laws.{items-few, ascb-on, ascb-fail, ascb-end}
-use Rattle.queues.proofs.ascending.Statement.{statement}
-use Rattle.queues.proofs.ascending.Tie as tie
+use Rattle.queues.specs.ItemLaws.{items-few}
+use Rattle.queue_checks.proofs.Laws.{ascb-on, ascb-fail, ascb-end}
+use Rattle.queue_checks.proofs.ascending.Statement.{statement}
+use Rattle.queue_checks.proofs.ascending.Tie as tie
 
 abbrev Inv-loop : tie.InvT-loop
 Inv-loop keys q n i₀ i = (0 < i) × (ascb (keyOf keys) (drop (i - 1) (items q)) ≡ ascb (keyOf keys) (items q))

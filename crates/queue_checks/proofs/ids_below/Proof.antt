@@ -1,14 +1,15 @@
--- `queues::ids_below` meets its contract. The loop: the test of the items that are left is the test of all.
+-- `queue_checks::ids_below` meets its contract. The loop: the test of the items that are left is the test of all.
 use borrow.Author.Needs.{needs}
 use mathlib.Core.Path.{_≡_, sym, _∙_}
 use Prim.Native.Nat.{_-_, _≤_}
 use native.Mathlib.Omega.{arith}
 use lib.ListN.{length, drop}
 use Rattle.lists.specs.Order.{inside}
 use Rattle.queues.specs.Queue.{items, places}
-use Rattle.queues.proofs.Laws.{items-few, inside-on, inside-fail, inside-end}
-use Rattle.queues.proofs.ids_below.Statement.{statement}
-use Rattle.queues.proofs.ids_below.Tie as tie
+use Rattle.queues.specs.ItemLaws.{items-few}
+use Rattle.queue_checks.proofs.Laws.{inside-on, inside-fail, inside-end}
+use Rattle.queue_checks.proofs.ids_below.Statement.{statement}
+use Rattle.queue_checks.proofs.ids_below.Tie as tie
 
 abbrev Inv-loop : tie.InvT-loop
 Inv-loop n q m i₀ i = (i ≤ m) × (inside n (drop i (items q)) ≡ inside n (items q))
