@@ -5,7 +5,7 @@ use mathlib.Core.Bool.{Bool, true, false}
 use mathlib.Core.Option.{Option, none, some}
 use Prim.Native.Nat.{ℕ, zero, suc, _<_}
 
--- l is the chain from o: it ends
+-- l is the whole chain from o, which ends
 pub data Chain (next : ℕ → Option ℕ) : Option ℕ → List ℕ → Type 0 where
   end : Chain next none []
   link : {i : ℕ} {l : List ℕ} → Chain next (next i) l → Chain next (some i) (i ∷ l)

@@ -20,6 +20,6 @@ leadsTo n next j i = member i (walk n next (some j))
 unfoldable pub leastLeading : ℕ → (ℕ → Option ℕ) → (ℕ → ℕ) → ℕ → ℕ
 leastLeading n next own i = least n (λ j. leadsTo n next j i) own (own i)
 
--- f answers by itself: the least of i's own value and of f at the numbers whose next is i
+-- f is, at each i below n, the least of i's own value and of f at the numbers whose next is i
 abbrev pub Recursive : ℕ → (ℕ → Option ℕ) → (ℕ → ℕ) → (ℕ → ℕ) → Type 0
 Recursive n next own f = (i : ℕ) → i < n → f i ≡ least n (λ k. holds (next k) i) f (own i)

@@ -1,15 +1,40 @@
--- Laws of a step by its code: codes that no step has.
-use mathlib.Core.Path.{_≡_}
+-- Laws of a step by its code: every step has one, and no other code is a step's.
+use mathlib.Core.Path.{_≡_, refl}
 use Prim.Native.Nat.{ℕ, suc, _≤_}
 use native.Mathlib.Omega.{arith}
-use lib.ListN.{List·getD-eq-default}
+use lib.ListN.{length, List·getD-eq-default}
+use Rattle.record.specs.declared.Request.{Request}  -- keep
+use Rattle.record.specs.declared.Request.the-variants.{Task, Mutex, Sem, Start, Lock, Unlock, Pend, Post, Flush, Sleep, Yield, Hold, Free, Tick, Level, Outcome}  -- keep
 use Rattle.firmware.specs.Call.{byCode, requestOf}
-use Rattle.firmware.specs.declared.Asked.the-variants.{Nothing}  -- keep
+use Rattle.firmware.specs.declared.Asked.the-variants.{Step, Nothing}  -- keep
 
 -- a number that is no smaller and another is greater
 pub past : (n code : ℕ) → n ≤ code → (code ≡ n → ⊥) → suc n ≤ code
 past n code h other = omega arith
 
-pub beyond : (code a b : ℕ) → 16 ≤ code → requestOf code a b ≡ Nothing
+-- the step x is what some code asks for with some numbers
+abbrev pub HasCode : Request → Type 0
+HasCode x = (code : ℕ) × (a : ℕ) × (b : ℕ) × (requestOf code a b ≡ Step x)
+
+pub each-has-code : (x : Request) → HasCode x
+unfolding requestOf
+each-has-code (Task p) = (0, p, 0, refl)
+each-has-code (Mutex k) = (1, k, 0, refl)
+each-has-code (Sem count max) = (2, count, max, refl)
+each-has-code Start = (3, 0, 0, refl)
+each-has-code (Lock m t) = (4, m, t, refl)
+each-has-code (Unlock m) = (5, m, 0, refl)
+each-has-code (Pend k t) = (6, k, t, refl)
+each-has-code (Post k) = (7, k, 0, refl)
+each-has-code (Flush k) = (8, k, 0, refl)
+each-has-code (Sleep t) = (9, t, 0, refl)
+each-has-code Yield = (10, 0, 0, refl)
+each-has-code Hold = (11, 0, 0, refl)
+each-has-code Free = (12, 0, 0, refl)
+each-has-code Tick = (13, 0, 0, refl)
+each-has-code (Level i) = (14, i, 0, refl)
+each-has-code (Outcome i) = (15, i, 0, refl)
+
+pub beyond : (code a b : ℕ) → length (byCode a b) ≤ code → requestOf code a b ≡ Nothing
 unfolding requestOf
 beyond code a b h = List·getD-eq-default (byCode a b) Nothing h

@@ -66,6 +66,6 @@ module _ (f : ℕ → ℕ) where
       go (some x) e rest = sym (first-least k x l e lo)
       go none e rest = rest e
 
-  -- all keys below n
+  -- where all keys are below n
   pub first-is-least : (n : ℕ) (l : List ℕ) → ((y : ℕ) → 1 ≤ occ y l → f y < n) → firstFrom f n 0 l ≡ leastFirst f l
   first-is-least n l hi = from-least n 0 l (λ y m. omega arith) (λ y m. omega (arith, hi y m))

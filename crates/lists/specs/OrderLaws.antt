@@ -1,6 +1,6 @@
--- Laws of ordered lists: counts and order after an insertion, the stable order, the first of least key.
+-- Laws of ordered lists: counts and order after an insertion, the stable order, what a test keeps, the first of least key.
 use mathlib.Core.Path.{_≡_, refl, ap, sym, _∙_}
-use mathlib.Core.List.{List, [], _∷_, _++_}
+use mathlib.Core.List.{List, [], _∷_, _++_, append-nil}
 use mathlib.Core.Bool.{Bool, true, false, not}
 use mathlib.Core.Logic.{inl, inr}
 use mathlib.Core.Option.{none, some}
@@ -8,6 +8,7 @@ use Prim.Native.Nat.{ℕ, zero, suc, _+_, _≤_, _<_}
 use native.Mathlib.Omega.{arith}
 use native.Mathlib.Decide.{ℕ-discrete, decLt}
 use lib.Dec.{ltb, eqb}
+use lib.Seq.{append-snoc}
 use borrow.Author.Tests.{ltb-true, ltb-false, leb-true, leb-false, eqb-true, eqb-false, not-true, lt-ltb, le-ltb, le-leb, eq-eqb}
 use Rattle.lists.specs.Test.{_and_}
 use Rattle.lists.specs.Count.{eqn, occ, member, below}
@@ -75,21 +76,13 @@ tail-last f x (z ∷ l) h = rw (le-ltb (f x) (f z) (h z (occ-head z l))) (ap (z 
 
 insertAll-asc : (f : ℕ → ℕ) (xs l : List ℕ) → Asc f xs → ((x y : ℕ) → 1 ≤ occ x xs → 1 ≤ occ y l → f y ≤ f x) → insertAll f xs l ≡ l ++ xs
 unfolding insertAll occ
-insertAll-asc f [] l a h = sym (nil l)
-  where
-    nil : (l : List ℕ) → l ++ [] ≡ l
-    nil [] = refl
-    nil (x ∷ l) = ap (x ∷_) (nil l)
+insertAll-asc f [] l a h = sym (append-nil l)
 insertAll-asc f (x ∷ xs) l a h =
     rw (tail-last f x l (λ y m. h x y (occ-head x xs) m))
     (insertAll-asc f xs (l ++ (x ∷ [])) (a .1) (λ u y m k. elim (ℕ-discrete x y) [
       | yes e ↦ omega (arith, a .0 u m, ap f e)
       | no n ↦ h u y (omega arith) (omega (arith, occ-append y l (x ∷ []), eqn-other x y n))
-    ]) ∙ shift l)
-  where
-    shift : (l : List ℕ) → (l ++ (x ∷ [])) ++ xs ≡ l ++ (x ∷ xs)
-    shift [] = refl
-    shift (z ∷ l) = ap (z ∷_) (shift l)
+    ]) ∙ append-snoc l x xs)
 
 -- a list that is ascending already stays as it is
 pub stable-asc : (f : ℕ → ℕ) (l : List ℕ) → Asc f l → stable f l ≡ l
@@ -237,7 +230,7 @@ ties-change f g [] h t = tt
 ties-change f g (x ∷ l) h t =
     ((λ y m q. t .0 y m (omega (arith, q, h x (occ-head x l), h y (omega arith)))), ties-change f g l (λ y m. h y (omega arith)) (t .1))
 
--- the numbers of a list are below n
+-- the numbers of a list are below n, and its test
 pub inside-true : (n : ℕ) (l : List ℕ) → inside n l ≡ true → (i : ℕ) → n ≤ i → occ i l ≡ 0
 unfolding inside occ
 inside-true n [] e i h = refl
@@ -267,7 +260,7 @@ unfolding leastFirst occ
 least-none f [] e i = refl
 least-none f (x ∷ l) e i = none-some e refl
 
--- up to the first x: without x, and nothing twice that was not there twice
+-- up to the first x: without x, and nothing more often than in the list
 pub occ-before : (x y : ℕ) (l : List ℕ) → occ y (before x l) ≤ occ y l
 unfolding before occ
 occ-before x y [] = omega arith
@@ -291,6 +284,15 @@ byId-ext n p q h = keep-ext p q (upTo n) (λ y m. h y (in-below y n (omega (arit
 pub byId-none : (n : ℕ) (p : ℕ → Bool) → ((i : ℕ) → p i ≡ false) → byId n p ≡ []
 unfolding byId
 byId-none n p h = keep-none p (upTo n) (λ y m. h y)
+
+-- r alone, where no other number passes
+pub byId-one : (n r : ℕ) (p : ℕ → Bool) → r < n → p r ≡ true → ((y : ℕ) → (y ≡ r → ⊥) → p y ≡ false) → byId n p ≡ r ∷ []
+unfolding byId keep upTo
+byId-one zero r p h passes others = absurd (omega arith)
+byId-one (suc n) r p h passes others = elim (ℕ-discrete r n) [
+  | yes e ↦ keep-append p (upTo n) (n ∷ []) ∙ rw (keep-none p (upTo n) (λ y m. others y (λ q. omega (arith, occ-upTo y n, below-out y n (omega arith)))), ← e, passes) refl
+  | no q ↦ keep-append p (upTo n) (n ∷ []) ∙ rw (byId-one n r p (omega arith) passes others, others n (λ e. q (sym e))) refl
+]
 
 -- what is kept was there, and passes
 pub keep-in : (p : ℕ → Bool) (y : ℕ) (l : List ℕ) → 1 ≤ occ y (keep p l) → (p y ≡ true) × (1 ≤ occ y l)

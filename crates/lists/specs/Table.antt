@@ -1,4 +1,4 @@
--- Tables as lists: an element changed by its place.
+-- Tables as lists: changed by their places, with unused places, and filled by a function.
 use mathlib.Core.List.{List, [], _∷_, _++_}
 use mathlib.Core.Bool.{Bool, cond}
 use Prim.Native.Nat.{ℕ, zero, suc, _-_}

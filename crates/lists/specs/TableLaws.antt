@@ -5,21 +5,27 @@ use Prim.Native.Nat.{ℕ, zero, suc, _-_, _≤_, _<_}
 use native.Mathlib.Omega.{arith}
 use native.Mathlib.Decide.{ℕ-discrete, decLt}
 use lib.ListN.{length, getD, set, take, drop, length-append, length-set, List·getD-eq-default, List·getD-append, replicate, drop-of-length-le, length-replicate}
-use lib.Seq.{drop-cons, set-at, take-at, length-take-le, getD-take, ext-getD, set-append-left, set-append-seam, append-snoc}
+use lib.Seq.{length-take-le, drop-cons, append-snoc, getD-append-seam, set-append-seam, set-append-left, getD-take, ext-getD, set-at, take-at, getD-at}
 use Rattle.lists.specs.Table.{edit, pad, filled}
 
 module _ {A : Type 0} where
-  -- a table with one more place, as yet empty, holds what it held
+  -- a table with more places, as yet empty, holds what it held
+  getD-fill : (d : A) (k i : ℕ) → getD (replicate k d) i d ≡ d
+  getD-fill d zero i = refl
+  getD-fill d (suc k) zero = refl
+  getD-fill d (suc k) (suc i) = getD-fill d k i
+
+  getD-tail : (d : A) (k : ℕ) (l : List A) (i : ℕ) → getD (l ++ replicate k d) i d ≡ getD l i d
+  getD-tail d k [] i = getD-fill d k i
+  getD-tail d k (x ∷ l) zero = refl
+  getD-tail d k (x ∷ l) (suc i) = getD-tail d k l i
+
   pub snoc-default : (d : A) (l : List A) (i : ℕ) → getD (l ++ (d ∷ [])) i d ≡ getD l i d
-  snoc-default d [] zero = refl
-  snoc-default d [] (suc i) = refl
-  snoc-default d (x ∷ l) zero = refl
-  snoc-default d (x ∷ l) (suc i) = snoc-default d l i
+  snoc-default d l i = getD-tail d 1 l i
 
   -- the new place
   pub snoc-last : (x d : A) (l : List A) → getD (l ++ (x ∷ [])) (length l) d ≡ x
-  snoc-last x d [] = refl
-  snoc-last x d (y ∷ l) = snoc-last x d l
+  snoc-last x d l = getD-append-seam l x [] d
 
   pub length-snoc : (l : List A) (x : A) → length (l ++ (x ∷ [])) ≡ suc (length l)
   length-snoc l x = omega (arith, length-append l (x ∷ []))
@@ -35,7 +41,7 @@ module _ {A : Type 0} where
   getD-edit f d (x ∷ l) zero h = refl
   getD-edit f d (x ∷ l) (suc i) h = getD-edit (λ j. f (suc j)) d l i (omega arith)
 
-  -- a change that keeps what stands at no place can be read at every place
+  -- a change that keeps the default d can be read at every place
   pub getD-edit-default : (f : ℕ → A → A) (d : A) (l : List A) (i : ℕ) → ((j : ℕ) → f j d ≡ d) → getD (edit f l) i d ≡ f i (getD l i d)
   unfolding edit
   getD-edit-default f d [] i h = sym (h i)
@@ -51,7 +57,7 @@ module _ {A : Type 0} where
   unfolding filled
   getD-filled zero f d i h = absurd (omega arith)
   getD-filled (suc n) f d i h = elim (ℕ-discrete i n) [
-    | yes e ↦ rw e (ap (λ k. getD (filled n f ++ (f n ∷ [])) k d) (sym (length-filled n f)) ∙ snoc-last (f n) d (filled n f))
+    | yes e ↦ rw e (getD-at (filled n f) (f n) [] d n (length-filled n f))
     | no q ↦ List·getD-append (filled n f) (f n ∷ []) d i (omega (arith, length-filled n f)) ∙ getD-filled n f d i (omega arith)
   ]
 
@@ -70,7 +76,7 @@ module _ {A : Type 0} where
   filled-ext zero f g h = refl
   filled-ext (suc n) f g h = rw (filled-ext n f g (λ i k. h i (omega arith)), h n (omega arith)) refl
 
-  -- a function read at every place of a table, or given the table's places, is the table
+  -- a table filled with what stands at each place of l is l
   pub filled-is : (n : ℕ) (f : ℕ → A) (d : A) (l : List A) → length l ≡ n → ((i : ℕ) → i < n → f i ≡ getD l i d) → filled n f ≡ l
   filled-is n f d l e h = ext-getD d (filled n f) l (length-filled n f ∙ sym e) (λ i k.
       let q : i < n = omega (arith, length-filled n f) in getD-filled n f d i q ∙ h i q)
@@ -105,20 +111,10 @@ module _ {A : Type 0} where
         less : N - length l ≡ suc (N - suc (length l))
         less = omega arith
 
-    getD-fill : (k i : ℕ) → getD (replicate k d) i d ≡ d
-    getD-fill zero i = refl
-    getD-fill (suc k) zero = refl
-    getD-fill (suc k) (suc i) = getD-fill k i
-
-    getD-tail : (k : ℕ) (l : List A) (i : ℕ) → getD (l ++ replicate k d) i d ≡ getD l i d
-    getD-tail k [] i = getD-fill k i
-    getD-tail k (x ∷ l) zero = refl
-    getD-tail k (x ∷ l) (suc i) = getD-tail k l i
-
     -- a reader that goes by the place need not know how many places are used
     pub getD-pad : (l : List A) (i : ℕ) → getD (pad N d l) i d ≡ getD l i d
     unfolding pad
-    getD-pad l i = getD-tail (N - length l) l i
+    getD-pad l i = getD-tail d (N - length l) l i
 
     -- the table that reads as a does, place by place, is a
     pub pad-is : (l a : List A) → length l ≤ N → length a ≡ N → ((i : ℕ) → i < N → getD l i d ≡ getD a i d) → pad N d l ≡ a
@@ -131,7 +127,7 @@ module _ {A : Type 0} where
       | no q ↦ (let b : length (filled n f) ≤ i = omega (arith, length-filled n f) in List·getD-eq-default (filled n f) d b ∙ sym (v i (omega arith) k))
     ])
 
-    -- canonical: behind the first n places nothing stands
+    -- a table behind whose first n places nothing stands is those n places, padded
     pub pad-take : (n : ℕ) (a : List A) → n ≤ N → length a ≡ N → ((i : ℕ) → n ≤ i → i < N → getD a i d ≡ d) → pad N d (take n a) ≡ a
     pad-take n a h e v = pad-is (take n a) a (omega (arith, m)) e (λ i k. elim (decLt i n) [
       | yes q ↦ getD-take n a i d q

@@ -20,7 +20,7 @@ unfoldable pub allb : ℕ → (ℕ → Bool) → Bool
 allb zero p = true
 allb (suc n) p = p n and allb n p
 
--- there is one, and it passes
+-- there is one
 unfoldable pub someb : {A : Type 0} → Option A → Bool
 someb none = false
 someb (some x) = true

@@ -1,5 +1,5 @@
 -- Laws of the lines from a place on: how many there are, and which is the n-th.
-use mathlib.Core.Path.{_≡_, ap, _∙_}
+use mathlib.Core.Path.{_≡_}
 use mathlib.Core.Bool.{true, false}
 use mathlib.Core.List.{List, []}
 use mathlib.Core.Logic.{inl, inr}
@@ -10,7 +10,7 @@ use lib.ListN.{length, getD, drop}
 use borrow.Author.Tests.{leb-true, leb-false, ltb-true, ltb-false}
 use Rattle.text.specs.CutLaws.{upTo-end}
 use Rattle.text.specs.Lines.{lf, lines, lineFrom, nextLine}
-use Rattle.text.specs.LinesLaws.{next-end, lines-next, lines-none}
+use Rattle.text.specs.LinesLaws.{lines-next, lines-none}
 use Rattle.lists.specs.TestLaws.{which}
 use Rattle.reader.specs.Place.{endedAt}
 
@@ -25,9 +25,6 @@ module _ (text : List ℕ) (at : ℕ) where
   -- where no line begins, the line is empty and the place stays
   pub line-ended : length text ≤ at → lineFrom text at ≡ []
   line-ended h = upTo-end lf text at h
-
-  pub next-ended : length text ≤ at → nextLine text at ≡ at
-  next-ended h = next-end text at (omega arith) ∙ omega (arith, ap length (line-ended h))
 
   -- one line, and those behind it; or none
   pub count-next : at < length text → length (lines (drop at text)) ≡ suc (length (lines (drop (nextLine text at) text)))

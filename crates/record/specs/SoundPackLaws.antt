@@ -15,7 +15,7 @@ use Rattle.lists.specs.Count.{occ, below, opt}
 use Rattle.lists.specs.Table.{pad, filled}
 use Rattle.lists.specs.TestLaws.{which, by-test, and-l, and-r, true-and, or-l, or-r, true-all, none-some, some-same}
 use Rattle.lists.specs.CountLaws.{occ-opt, in-below, below-le, pigeonhole}
-use Rattle.lists.specs.TableLaws.{length-filled, filled-is, take-pad, length-pad}
+use Rattle.lists.specs.TableLaws.{filled-is, take-pad, length-pad}
 use Rattle.chains.specs.Chain.{on}
 use Rattle.rules.specs.Sizes.{maxTasks, maxMutexes, maxSemaphores, kinds, wordSize}
 use Rattle.rules.specs.Levels.{levelIn}
@@ -60,15 +60,6 @@ module _ (clock : ℕ) (word : clock < wordSize) where
       go (mutexOf m) o = refl
       go (semOf m) o = refl
       go time o = refl
-
-  due-small : (w : Option Wait) → dueCode clock w < wordSize
-  unfolding dueCode leftCode
-  due-small none = omega arith
-  due-small (some w) = go (w .left)
-    where
-      go : (o : Option ℕ) → leftCode clock o < wordSize
-      go none = omega arith
-      go (some n) = omega arith
 
 owner-list : (l : List (Option ℕ)) → ((m o : ℕ) → getD l m none ≡ some o → o < maxTasks) → map taskAt (map idOf l) ≡ l
 owner-list [] h = refl
@@ -129,37 +120,6 @@ module _ (s : Model) (I : Inv s) where
 
   waiting-fits : length (s .tables .waiting) ≤ maxTasks
   waiting-fits = omega (arith, I .facts .few-tasks, pigeonhole (tasks (s .tables)) (s .tables .waiting) (λ y. omega (arith, ids-in y, below-le y (tasks (s .tables)))) (λ y m. in-below y (tasks (s .tables)) (omega (arith, ids-in y))))
-
-  -- arrays have their lengths and numbers fit
-  pub pack-typed : Typed (pack s)
-  unfolding pack packTasks packMutexes packSemaphores queueOf
-  pack-typed = record {
-    due-length = column (map (dueCode (s .clock)) (t .waits)) (omega (arith, F .few-tasks, F .wait-column, length-map (t .waits) (dueCode (s .clock))));
-    priority-length = column (t .priorities) (F .few-tasks);
-    level-length = column (filled (tasks t) (levelIn t)) (omega (arith, F .few-tasks, length-filled (tasks t) (levelIn t)));
-    outcome-length = column (t .outcomes) (omega (arith, F .few-tasks, F .outcome-column));
-    wait-length = column (map kindCode (t .waits)) (omega (arith, F .few-tasks, F .wait-column, length-map (t .waits) kindCode));
-    object-length = column (map objectCode (t .waits)) (omega (arith, F .few-tasks, F .wait-column, length-map (t .waits) objectCode));
-    timed-length = column (map timedCode (t .waits)) (omega (arith, F .few-tasks, F .wait-column, length-map (t .waits) timedCode));
-    kind-length = length-pad maxMutexes 0 (t .kinds) (omega (arith, F .few-mutexes, F .kind-column));
-    owner-length = length-pad maxMutexes noId (map idOf (t .owners)) (omega (arith, F .few-mutexes, length-map (t .owners) idOf));
-    count-length = length-pad maxSemaphores 0 (t .counts) (F .few-semaphores);
-    maximum-length = length-pad maxSemaphores 0 (t .maxima) (omega (arith, F .few-semaphores, F .maximum-column));
-    ready-length = length-pad places noId (s .ready) ready-fits;
-    waiting-length = length-pad places noId (t .waiting) waiting-fits;
-    due-word = λ i. omega (arith, due-read t (s .clock) i, due-small (s .clock) (I .clock-in) (waitOf t i));
-    clock-word = I .clock-in;
-    hold-byte = omega (arith, I .hold-in);
-  }
-    where
-      t : Tables
-      t = s .tables
-
-      F : Facts (s .tables)
-      F = I .facts
-
-      column : (l : List ℕ) → length l ≤ maxTasks → length (pad maxTasks 0 l) ≡ maxTasks
-      column = length-pad maxTasks 0
 
 -- the codes of a wait keep the record's rules
 used-code : (clock : ℕ) (w : Option Wait)

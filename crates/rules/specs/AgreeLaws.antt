@@ -10,30 +10,29 @@ use native.Mathlib.Decide.{ℕ-discrete}
 use lib.Dec.{ltb, leb, eqb}
 use lib.ListN.{length, getD, List·getD-map}
 use lib.Seq.{getD-set-same, getD-set-other}
-use borrow.Author.Tests.{leb-false, not-false, lt-leb, eq-eqb, ne-eqb}
-use Rattle.lists.specs.Test.{_and_, someb, holds}
-use Rattle.lists.specs.Order.{keep, leastFirst, before}
+use borrow.Author.Tests.{leb-false, eqb-true, not-false, lt-leb, eq-eqb, ne-eqb}
+use Rattle.lists.specs.Test.{_and_, holds}
+use Rattle.lists.specs.Order.{keep, leastFirst}
 use Rattle.lists.specs.Table.{putWhere}
-use Rattle.lists.specs.TestLaws.{which, clash, by-test}
+use Rattle.lists.specs.TestLaws.{which, clash, by-test, same-test}
 use Rattle.lists.specs.TableLaws.{snoc-default}
-use Rattle.chains.specs.Chain.{on}
 use Rattle.chains.specs.Least.{leastLeading}
-use Rattle.rules.specs.Sizes.{kinds, inheriting, forever, granted, flushed}
+use Rattle.rules.specs.Sizes.{inheriting, forever, granted, flushed}
 use Rattle.rules.specs.Tables.{Awaited, mutexOf, semOf, time, Wait, Tables, withCounts, withMaxima, tasks, mutexes, priorityOf, waitOf, kindOf, ownerOf, countOf}
 use Rattle.rules.specs.Levels.{mutexAwaited, andThen, next, heirOf, lends, levelIn, linksOf, waitIsFor, awaits, waitersOf, bestWaiter}
 use Rattle.rules.specs.State.{State, fresh, withTables, placed, levelOf}
 use Rattle.rules.specs.Step.{Step, task, mutex, sem, start, lock, unlock, pend, post, flush, sleep, yield, hold, free, tick, level, outcome}
-use Rattle.rules.specs.Effect.{Effect, done, addTask, addMutex, give, setCount, beginWait, endWaits, ticksOf, waitFor, callerWaits, lockBy, passOn, pendBy, credit, flushOf, isDue, due, lessOne, age, ageAll, tickOf, yieldBy, called, effect}
+use Rattle.rules.specs.Effect.{Effect, done, addTask, addMutex, give, setCount, beginWait, endWaits, ticksOf, waitFor, callerWaits, lockBy, passOn, pendBy, credit, flushOf, isDue, due, lessOne, age, ageAll, tickOf, yieldBy, effect}
 use Rattle.rules.specs.Settle.{settle, meet, dispatch, finish}
 use Rattle.rules.specs.Refusal.{ofCaller, noCredit, callerOwns, refusals, firstRow}
-use Rattle.rules.specs.Answer.{Answer, accepted, standing}
+use Rattle.rules.specs.Answer.{Answer, answered, standing}
 use Rattle.rules.specs.Log.{Call, call}
 use Rattle.rules.specs.Invariant.{Facts, Inv}
 use Rattle.rules.specs.FactsLaws.{wait-ended}
 use Rattle.rules.specs.WaiterLaws.{best-is-least}
-use Rattle.rules.specs.StepLaws.{passed, caller-in}
+use Rattle.rules.specs.StepLaws.{passed, called-by, caller-in}
 use Rattle.rules.specs.SoundLaws.{inv-sound}
-use Rattle.rules.specs.History.{Event, Begun, Told, nothingTold, begunMutex, toldNext, toldLends, toldLevel, begunFor, toldBest, toldOwner, begins, endsWhere, endsOf, timeUp, oneMore, ticked, runnerOwns, handsOver, tells, nowRuns, observe}
+use Rattle.rules.specs.History.{Event, Begun, Told, nothingTold, begunMutex, toldNext, toldHeir, toldLends, toldLevel, begunFor, toldBest, toldOwner, begins, endsWhere, endsOf, timeUp, oneMore, ticked, runnerOwns, handsOver, tells, nowRuns, observe}
 use Rattle.rules.specs.RefusalLaws.{refused-number, refused-above, step-by, call-by, sound-stands}
 
 -- a wait as the list tells it, in the words of the tables
@@ -65,7 +64,7 @@ fresh-agrees = record {
   started = refl;
 }
 
--- a wait, told and held
+-- a wait, as told and in the tables
 begun-mutex : (w : Option Begun) → begunMutex w ≡ mutexAwaited (asWait w)
 unfolding begunMutex mutexAwaited asWait
 begun-mutex none = refl
@@ -76,12 +75,6 @@ unfolding begunFor waitIsFor asWait
 begun-for a none = refl
 begun-for a (some b) = refl
 
-same-test : (a b c d : ℕ) → (a ≡ b → c ≡ d) → (c ≡ d → a ≡ b) → eqb a b ≡ eqb c d
-same-test a b c d f g = elim (ℕ-discrete a b) [
-  | yes e ↦ eq-eqb a b e ∙ sym (eq-eqb c d (f e))
-  | no n ↦ ne-eqb a b n ∙ sym (ne-eqb c d (λ e. n (g e)))
-]
-
 -- the wait whose time is up has one tick left
 up-due : (w : Option Begun) → timeUp w ≡ isDue (asWait w)
 unfolding timeUp isDue asWait holds _and_
@@ -91,7 +84,7 @@ up-due (some b) = go (b .time) (b .ticks)
     go : (t n : ℕ) → not (eqb t forever) and eqb (n + 1) t ≡ holds (cond (eqb t forever) none (some (t - n))) 1
     go t n = elim (which (eqb t forever)) [
       | inl e ↦ rw e refl
-      | inr e ↦ rw e (same-test (n + 1) t (t - n) 1 (λ q. omega arith) (λ q. omega arith))
+      | inr e ↦ rw e (same-test _ _ (λ q. eq-eqb (t - n) 1 (omega (arith, eqb-true (n + 1) t q))) (λ q. eq-eqb (n + 1) t (omega (arith, eqb-true (t - n) 1 q))))
     ]
 
 more-less : (w : Option Begun) → asWait (oneMore w) ≡ age (asWait w)
@@ -112,12 +105,9 @@ module _ {t : Tables} {h : Told} (A : Matches t h) where
 
   pub lends-told : toldLends h ≡ lends t
   unfolding toldLends lends
-  lends-told = fun-ext (λ i. ap (λ w. andThen w heir) (mutex-told i) ∙ ap (andThen (mutexAwaited (waitOf t i))) (fun-ext same))
+  lends-told = fun-ext (λ i. ap (λ w. andThen w (toldHeir h)) (mutex-told i) ∙ ap (andThen (mutexAwaited (waitOf t i))) (fun-ext same))
     where
-      heir : ℕ → Option ℕ
-      heir m = cond (eqb (getD (h .kinds) m 0) inheriting) (h .owner m) none
-
-      same : (m : ℕ) → heir m ≡ heirOf t m
+      same : (m : ℕ) → toldHeir h m ≡ heirOf t m
       same m = ap (λ k. cond (eqb (getD k m 0) inheriting) (h .owner m) none) (A .kinds) ∙ ap (λ o. cond (eqb (kindOf t m) inheriting) o none) (A .owner m)
 
   pub level-told : toldLevel h ≡ levelIn t
@@ -137,7 +127,7 @@ module _ {t : Tables} {h : Told} (A : Matches t h) where
   due-told : (λ i. timeUp (h .wait i)) ≡ due t
   due-told = fun-ext (λ i. up-due (h .wait i) ∙ ap isDue (A .wait i))
 
-  -- each change of the tables, told and held
+  -- each change, as told and in the tables
   matches-task : (p k : ℕ) → Matches (addTask t p) (tells h (task p) k)
   unfolding tells
   matches-task p k = record {
@@ -205,7 +195,7 @@ module _ {t : Tables} {h : Told} (A : Matches t h) where
     order = ap (keep (λ i. not (p i))) (A .order);
   }
 
-  -- "Each wait begun with time t ends at the t-th tick after it."
+  -- "Each wait begun with time t ends at the t-th tick after it"
   matches-tick : (out : ℕ → ℕ) → Matches (ageAll (endWaits t (due t) out)) (ticked h)
   unfolding ticked asWait age
   matches-tick out = record {
@@ -257,7 +247,7 @@ module _ (s : State) (h : Told) (I : Inv s) (A : Agrees s h) where
   again x k v r above e = rw (lt-leb k 1 above, e) (placed-named h s (A .tables) (A .depth) (A .started) (s .running) (s .ready))
 
   abbrev After : Step → Effect → Type 0
-  After x e = AsTold x (accepted (finish s e) (e .number) (e .value))
+  After x e = AsTold x (answered (finish s e) (e .number) (e .value))
 
   -- an accepted step tells g
   tells-by : (x : Step) (e : Effect) (g : Told) → leb (e .number) 1 ≡ true → tells h x (e .number) ≡ g → Matches (e .state .tables) g
@@ -299,12 +289,6 @@ module _ (s : State) (h : Told) (I : Inv s) (A : Agrees s h) where
   pend-told k t r run = by-test (After (pend k t)) (noCredit s k) (λ e. wait-told (pend k t) (semOf k) t r 0 run refl)
       (λ e. tells-by (pend k t) (done (withTables s (setCount (s .tables) k (countOf (s .tables) k - 1))) [] 0) h refl refl (matches-sems (A .tables) _ _) (A .depth) (A .started))
 
-  -- a step with a caller
-  called-told : (x : Step) (o : Option ℕ) (f : ℕ → Effect) → not (someb o) ≡ false → ((r : ℕ) → o ≡ some r → After x (f r)) → After x (called s o f)
-  unfolding called someb
-  called-told x none f e g = absurd (clash refl e)
-  called-told x (some r) f e g = g r refl
-
   accept-told : (x : Step) → firstRow (refusals s x) ≡ none → After x (effect s x)
   unfolding effect refusals tells flushOf tickOf yieldBy endsWhere ticked
   accept-told (task p) e = tells-by (task p) (effect s (task p)) (tells h (task p) 0) refl refl (matches-task (A .tables) p 0) (A .depth) (A .started)
@@ -314,17 +298,17 @@ module _ (s : State) (h : Told) (I : Inv s) (A : Agrees s h) where
   accept-told (lock m t) e =
       let b = passed _ _ (passed _ _ e .1) in
       let c = passed _ _ (b .1) in
-      called-told (lock m t) (s .running) _ (b .0) (λ r run. lock-told m t r (ownerOf (s .tables) m) run (leb-false (mutexes (s .tables)) m (c .0)))
+      called-by (After (lock m t)) s (s .running) _ (b .0) (λ r run. lock-told m t r (ownerOf (s .tables) m) run (leb-false (mutexes (s .tables)) m (c .0)))
   accept-told (unlock m) e =
       let c = passed _ _ (passed _ _ (passed _ _ e .1) .1) in
       unlock-told m (bestWaiter (s .tables) (mutexOf m)) (owns-told m (passed _ _ (c .1) .0)) (best-told (A .tables) (I .facts) (mutexOf m))
       (leb-false (mutexes (s .tables)) m (c .0))
-  accept-told (pend k t) e = called-told (pend k t) (s .running) _ (passed _ _ (passed _ _ e .1) .0) (pend-told k t)
+  accept-told (pend k t) e = called-by (After (pend k t)) s (s .running) _ (passed _ _ (passed _ _ e .1) .0) (pend-told k t)
   accept-told (post k) e = post-told k (bestWaiter (s .tables) (semOf k)) (best-told (A .tables) (I .facts) (semOf k))
   accept-told (flush k) e = tells-by (flush k) (flushOf s k) (endsWhere h (awaits (s .tables) (semOf k))) refl (ap (endsWhere h) (for-told (A .tables) (semOf k)))
       (matches-end (A .tables) (awaits (s .tables) (semOf k)) (λ i. flushed)) (A .depth) (A .started)
-  accept-told (sleep t) e = called-told (sleep t) (s .running) _ (passed _ _ (passed _ _ e .1) .0) (λ r run. wait-told (sleep t) time t r 0 run refl)
-  accept-told yield e = called-told yield (s .running) _ (passed _ _ (passed _ _ e .1) .0) (λ r run. tells-by yield (yieldBy s r) h refl refl (A .tables) (A .depth) (A .started))
+  accept-told (sleep t) e = called-by (After (sleep t)) s (s .running) _ (passed _ _ (passed _ _ e .1) .0) (λ r run. wait-told (sleep t) time t r 0 run refl)
+  accept-told yield e = called-by (After yield) s (s .running) _ (passed _ _ (passed _ _ e .1) .0) (λ r run. tells-by yield (yieldBy s r) h refl refl (A .tables) (A .depth) (A .started))
   accept-told hold e = tells-by hold (effect s hold) (tells h hold 0) refl refl (matches-beside (A .tables) _ _ _) (ap (λ n. n + 1) (A .depth)) (A .started)
   accept-told free e = tells-by free (effect s free) (tells h free 0) refl refl (matches-beside (A .tables) _ _ _) (ap (λ n. n - 1) (A .depth)) (A .started)
   accept-told tick e = tells-by tick (tickOf s) (ticked h) refl refl (matches-tick (A .tables) _) (A .depth) (A .started)

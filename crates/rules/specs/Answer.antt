@@ -16,17 +16,15 @@ pub record Answer : Type 0 where
   -- the task to run
   pub run : Option ℕ
 
--- "Every number but 0 and 1 leaves the state unchanged. The task to run is then the running one as it stands"
-abbrev pub refused : State → ℕ → ℕ → Answer
-refused s k v = record { state = s; number = k; value = v; run = s .running }
-
-abbrev pub accepted : State → ℕ → ℕ → Answer
-accepted s k v = record { state = s; number = k; value = v; run = s .running }
+-- an answer that hands on the state s, whose running task is the one to run. With a refusal s is the state handed in: "Every number but 0
+-- and 1 leaves the state unchanged. The task to run is then the running one as it stands"
+abbrev pub answered : State → ℕ → ℕ → Answer
+answered s k v = record { state = s; number = k; value = v; run = s .running }
 
 -- the step on a sound state, by the first row of its refusals that applies
 unfoldable pub decide : State → Step → Option Row → Answer
-decide s x (some r) = refused s (r .number) (r .value)
-decide s x none = accepted (finish s (effect s x)) ((effect s x) .number) ((effect s x) .value)
+decide s x (some r) = answered s (r .number) (r .value)
+decide s x none = answered (finish s (effect s x)) ((effect s x) .number) ((effect s x) .value)
 
 unfoldable pub stepSound : State → Step → Answer
 stepSound s x = decide s x (firstRow (refusals s x))

@@ -6,8 +6,7 @@ use mathlib.Core.Logic.{_⊎_}
 use mathlib.Core.Option.{Option, none, some}
 use Prim.Native.Nat.{ℕ, _≤_, _<_}
 use lib.ListN.{length, getD}
-use Rattle.chains.specs.ChainLaws.{no-ring}
-use Rattle.rules.specs.Sizes.{levels, inheriting}
+use Rattle.rules.specs.Sizes.{inheriting}
 use Rattle.rules.specs.State.{State, fresh}
 use Rattle.rules.specs.Step.{level}
 use Rattle.rules.specs.Answer.{Answer}

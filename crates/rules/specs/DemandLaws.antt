@@ -1,7 +1,7 @@
 -- Demand 3 holds: what is due of the history, read off from a sound state that agrees with it.
 use mathlib.Core.Path.{_≡_, refl, ap, sym, _∙_, subst}
 use mathlib.Core.List.{List, [], _∷_}
-use mathlib.Core.Bool.{true, cond}
+use mathlib.Core.Bool.{true}
 use mathlib.Core.Logic.{_⊎_, inl, inr}
 use mathlib.Core.Option.{Option, none, some}
 use Prim.Native.Nat.{ℕ, _≤_, _<_}
@@ -24,13 +24,13 @@ use Rattle.rules.specs.Effect.{done, effect}
 use Rattle.rules.specs.Settle.{finish}
 use Rattle.rules.specs.Refusal.{refusals, firstRow}
 use Rattle.rules.specs.Sound.{waitCount, soundb}
-use Rattle.rules.specs.Answer.{Answer, accepted, decide, stepSound, step}
+use Rattle.rules.specs.Answer.{Answer, answered, decide, stepSound, step}
 use Rattle.rules.specs.Log.{logLine, withRoom, Call, inRoom, call}
 use Rattle.rules.specs.Invariant.{Started, Inv}
 use Rattle.rules.specs.LevelLaws.{lends-ended}
 use Rattle.rules.specs.StepLaws.{caller-in, step-inv, fresh-inv}
 use Rattle.rules.specs.SoundLaws.{inv-sound}
-use Rattle.rules.specs.History.{Told, nothingTold, tasksMade, ownPriority, begunMutex, toldNext, toldLends, toldLevel, observe, toldFrom, told}
+use Rattle.rules.specs.History.{Told, nothingTold, tasksMade, ownPriority, begunMutex, toldNext, toldHeir, toldLends, toldLevel, observe, toldFrom, told}
 use Rattle.rules.specs.Demand.{WaitsFor, LendsTo, Leads, to-owner, through, Row, Ready, MostUrgent, levelCall, Fits, Demand, events, after, Demand-3}
 use Rattle.rules.specs.RefusalLaws.{call-by}
 use Rattle.rules.specs.AgreeLaws.{asWait, Agrees, fresh-agrees, next-told, lends-told, level-told, eventOf, call-agrees}
@@ -58,10 +58,7 @@ module _ (h : Told) where
   unfolding toldLends andThen
   next-lends i j e = go (begunMutex (h .wait i)) refl e
     where
-      heir : ℕ → Option ℕ
-      heir m = cond (eqb (getD (h .kinds) m 0) inheriting) (h .owner m) none
-
-      go : (o : Option ℕ) → begunMutex (h .wait i) ≡ o → andThen o heir ≡ some j → LendsTo h i j
+      go : (o : Option ℕ) → begunMutex (h .wait i) ≡ o → andThen o (toldHeir h) ≡ some j → LendsTo h i j
       go none q e = none-some refl e
       go (some m) q e = elim (which (eqb (getD (h .kinds) m 0) inheriting)) [
         | inl t ↦ (m, q, eqb-true (getD (h .kinds) m 0) inheriting t, rw t at e)
@@ -84,7 +81,7 @@ module _ (h : Told) where
   row-from x (z ∷ l) y w = rw (waits-next x z (w .0)) (on {i = z} {k = y} (row-from z l y (w .1)))
 
 -- `level` is accepted for a task of a sound state, and its value is the level
-level-answer : (s : State) → Inv s → (i : ℕ) → i < tasks (s .tables) → step s (level i) ≡ accepted (finish s (done s [] (levelOf s i))) 0 (levelOf s i)
+level-answer : (s : State) → Inv s → (i : ℕ) → i < tasks (s .tables) → step s (level i) ≡ answered (finish s (done s [] (levelOf s i))) 0 (levelOf s i)
 unfolding step stepSound decide refusals firstRow effect
 level-answer s I i h = rw (inv-sound s I, lt-leb (tasks (s .tables)) i h) refl
 
@@ -93,7 +90,7 @@ module _ (s : State) (h : Told) (I : Inv s) (A : Agrees s h) where
   as-many = ap length (A .tables .priorities)
 
   level-call : (i : ℕ) → i < tasksMade h → (room : Option ℕ) → Fits room (call s (levelCall i none))
-      → call s (levelCall i room) ≡ accepted (finish s (done s [] (levelOf s i))) 0 (levelOf s i)
+      → call s (levelCall i room) ≡ answered (finish s (done s [] (levelOf s i))) 0 (levelOf s i)
   unfolding call inRoom withRoom
   level-call i low none fits = level-answer s I i (omega (arith, as-many))
   level-call i low (some room) fits = rw (le-leb (length (logLine (step s (level i)))) room fits) (level-answer s I i (omega (arith, as-many)))

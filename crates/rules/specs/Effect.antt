@@ -8,7 +8,6 @@ use lib.ListN.{set}
 use Rattle.lists.specs.Test.{holds}
 use Rattle.lists.specs.Order.{keep}
 use Rattle.lists.specs.Table.{putWhere}
-use Rattle.chains.specs.Chain.{on}
 use Rattle.rules.specs.Sizes.{wordSize, forever, granted, pending, timedOut, flushed}
 use Rattle.rules.specs.Tables.{Awaited, mutexOf, semOf, time, Wait, Tables, withPriorities, withOutcomes, withWaits, withWaiting, withKinds, withOwners, withCounts, withMaxima, tasks, mutexes, semaphores, outcomeOf, waitOf, ownerOf, countOf}
 use Rattle.rules.specs.Levels.{linksOf, awaits, bestWaiter}
@@ -50,7 +49,7 @@ beginWait t r w = withOutcomes (withWaiting (withWaits t (set (t .waits) r (some
 abbrev pub endWaits : Tables → (ℕ → Bool) → (ℕ → ℕ) → Tables
 endWaits t p out = withOutcomes (withWaiting (withWaits t (putWhere p (λ i. none) (t .waits))) (keep (λ i. not (p i)) (t .waiting))) (putWhere p out (t .outcomes))
 
--- who is ready when those waits end
+-- who becomes ready when those waits end
 abbrev pub ended : Tables → (ℕ → Bool) → List ℕ
 ended t p = keep p (t .waiting)
 
@@ -84,12 +83,12 @@ passOn s m (some w) = done (withTables s (give (endWaits (s .tables) (eqb w) (λ
 unfoldable pub pendBy : State → ℕ → ℕ → ℕ → Effect
 pendBy s k t r = cond (eqb (countOf (s .tables) k) 0) (callerWaits s r (semOf k) t 0) (done (withTables s (setCount (s .tables) k (countOf (s .tables) k - 1))) [] 0)
 
--- "post s: the best waiter gets the credit (outcome 0), else the count rises by one."
+-- "post s: from a task or an interrupt; the best waiter gets the credit (outcome 0), else the count rises by one."
 unfoldable pub credit : State → ℕ → Option ℕ → Effect
 credit s k none = done (withTables s (setCount (s .tables) k (countOf (s .tables) k + 1))) [] 0
 credit s k (some w) = done (withTables s (endWaits (s .tables) (eqb w) (λ i. granted))) (ended (s .tables) (eqb w)) 0
 
--- "flush s: every waiter becomes ready with outcome 21; the count stays."
+-- "flush s: from either; every waiter becomes ready with outcome 21; the count stays."
 unfoldable pub flushOf : State → ℕ → Effect
 flushOf s k = done (withTables s (endWaits (s .tables) (awaits (s .tables) (semOf k)) (λ i. flushed))) (ended (s .tables) (awaits (s .tables) (semOf k))) 0
 
@@ -123,7 +122,7 @@ age (some w) = some (record { on = w .on; left = lessOne (w .left) })
 abbrev pub ageAll : Tables → Tables
 ageAll t = withWaits t (map age (t .waits))
 
--- "tick: clock plus one. Each wait begun with time t ends at the t-th tick after it."
+-- "tick: clock plus one. Each wait begun with time t ends at the t-th tick after it"
 unfoldable pub tickOf : State → Effect
 tickOf s = done
     (withClock (withTables s (ageAll (endWaits (s .tables) (due (s .tables)) (λ i. outcomeDue (waitOf (s .tables) i))))) ((s .clock + 1) % wordSize))

@@ -1,13 +1,13 @@
--- Each change of the tables keeps their facts.
+-- A change of owners, waits or counts keeps the facts of the tables.
 use mathlib.Core.Path.{_≡_, refl, ap, sym, _∙_}
-use mathlib.Core.List.{[], _∷_, _++_}
+use mathlib.Core.List.{[], _∷_}
 use mathlib.Core.Bool.{Bool, true, false, cond, not}
 use mathlib.Core.Logic.{_⊎_, inl, inr}
 use mathlib.Core.Option.{Option, none, some}
-use Prim.Native.Nat.{ℕ, suc, _≤_, _<_}
+use Prim.Native.Nat.{ℕ, _≤_, _<_}
 use native.Mathlib.Omega.{arith}
 use native.Mathlib.Decide.{ℕ-discrete, decLt}
-use lib.ListN.{length, set, length-set, List·getD-eq-default, List·getD-map, length-map, List·getD-append}
+use lib.ListN.{length, set, length-set, List·getD-eq-default, List·getD-map, length-map}
 use lib.Seq.{getD-set-same, getD-set-other}
 use borrow.Author.Tests.{ltb-false, eqb-false}
 use Rattle.lists.specs.Test.{holds}
@@ -15,31 +15,32 @@ use Rattle.lists.specs.Count.{occ}
 use Rattle.lists.specs.TestLaws.{which, by-test, none-some, some-same}
 use Rattle.lists.specs.CountLaws.{eqn-at, eqn-other, occ-append}
 use Rattle.lists.specs.OrderLaws.{occ-kept, occ-dropped}
-use Rattle.lists.specs.TableLaws.{snoc-default, snoc-last, length-snoc, length-edit, getD-edit, getD-edit-default}
+use Rattle.lists.specs.TableLaws.{length-edit, getD-edit, getD-edit-default}
 use Rattle.chains.specs.Chain.{Ends, walk, Ended}
 use Rattle.chains.specs.ChainLaws.{walk-is-chain, ends-change, ends-wait, ends-pass, ends-drop}
-use Rattle.rules.specs.Sizes.{maxTasks, maxMutexes, maxSemaphores, levels, kinds, granted, pending}
+use Rattle.rules.specs.Sizes.{pending}
 use Rattle.rules.specs.Tables.{Awaited, mutexOf, semOf, time, Wait, Tables, tasks, mutexes, semaphores, outcomeOf, waitOf, ownerOf, countOf, maximumOf}
 use Rattle.rules.specs.Levels.{mutexIn, mutexAwaited, andThen, next, chainOf, closesRing, sameAwaited, waitIsFor, awaits}
-use Rattle.rules.specs.Effect.{addTask, addMutex, addSem, give, setCount, beginWait, endWaits, ended, isDue, due, lessOne, age, ageAll}
+use Rattle.rules.specs.Effect.{give, setCount, beginWait, endWaits, isDue, due, lessOne, age, ageAll}
 use Rattle.rules.specs.Sound.{waitCount}
 use Rattle.rules.specs.Invariant.{Unavailable, Blocked, Left, Timed, Outcome, Facts}
-use Rattle.rules.specs.LevelLaws.{wait-out, next-ended}
+use Rattle.rules.specs.LevelLaws.{next-ended}
 
--- what one of several parts of the tables says does not change where that part does not
+-- who waits for whom, and that every chain ends, stays as it is where waits and owners stay
 then-ext : (q : Option ℕ) (f g : ℕ → Option ℕ) → ((m : ℕ) → f m ≡ g m) → andThen q f ≡ andThen q g
 unfolding andThen
 then-ext none f g h = refl
 then-ext (some m) f g h = h m
 
-next-same : (t t′ : Tables) (x : ℕ) → waitOf t′ x ≡ waitOf t x → ((m : ℕ) → ownerOf t′ m ≡ ownerOf t m) → next t′ x ≡ next t x
+pub next-same : (t t′ : Tables) (x : ℕ) → waitOf t′ x ≡ waitOf t x → ((m : ℕ) → ownerOf t′ m ≡ ownerOf t m) → next t′ x ≡ next t x
 unfolding next
 next-same t t′ x e h = rw e (then-ext (mutexAwaited (waitOf t x)) (ownerOf t′) (ownerOf t) h)
 
-ends-same : (t t′ : Tables) → ((x : ℕ) → next t′ x ≡ next t x) → ((i : ℕ) → Ends (next t) (some i)) → (i : ℕ) → Ends (next t′) (some i)
+pub ends-same : (t t′ : Tables) → ((x : ℕ) → next t′ x ≡ next t x) → ((i : ℕ) → Ends (next t) (some i)) → (i : ℕ) → Ends (next t′) (some i)
 ends-same t t′ h E i = ends-change (λ x. inl (h x)) (E i .1)
 
-still : (t t′ : Tables) → ((m o : ℕ) → ownerOf t m ≡ some o → (o′ : ℕ) × (ownerOf t′ m ≡ some o′))
+-- what a task waits for stays unavailable where owned mutexes stay owned and counts at 0 stay at 0
+pub still : (t t′ : Tables) → ((m o : ℕ) → ownerOf t m ≡ some o → (o′ : ℕ) × (ownerOf t′ m ≡ some o′))
     → ((k : ℕ) → k < semaphores t → countOf t k ≡ 0 → (k < semaphores t′) × (countOf t′ k ≡ 0)) → (w : Option Wait) → Blocked t w → Blocked t′ w
 still t t′ f g none b = tt
 still t t′ f g (some w) b = go (w .on) b
@@ -49,7 +50,7 @@ still t t′ f g (some w) b = go (w .on) b
     go (semOf k) u = g k (u .0) (u .1)
     go time u = tt
 
--- a semaphore for which somebody waits is not the one that changes
+-- who does not wait for the semaphore k stays blocked where only k changes
 away : (t t′ : Tables) → ((m : ℕ) → ownerOf t′ m ≡ ownerOf t m) → (k : ℕ) → ((j : ℕ) → (j ≡ k → ⊥) → j < semaphores t → (j < semaphores t′) × (countOf t′ j ≡ countOf t j))
     → (w : Option Wait) → waitIsFor w (semOf k) ≡ false → Blocked t w → Blocked t′ w
 unfolding waitIsFor sameAwaited
@@ -61,122 +62,52 @@ away t t′ f k g (some w) e b = go (w .on) e b
     go (semOf j) q u = let r = g j (eqb-false j k q) (u .0) in (r .0, r .1 ∙ u .1)
     go time q u = tt
 
-pub facts-addTask : (t : Tables) (p : ℕ) → p < levels → tasks t < maxTasks → Facts t → Facts (addTask t p)
-facts-addTask t p low room F = record {
-  wait-column = omega (arith, F .wait-column, length-snoc (t .waits) none, more);
-  outcome-column = omega (arith, F .outcome-column, length-snoc (t .outcomes) granted, more);
-  kind-column = F .kind-column;
-  maximum-column = F .maximum-column;
-  few-tasks = omega (arith, more);
-  few-mutexes = F .few-mutexes;
-  few-semaphores = F .few-semaphores;
-  priorities = λ i h. elim (ℕ-discrete i (tasks t)) [
-    | yes e ↦ rw (e, snoc-last p 0 (t .priorities)) low
-    | no n ↦ (let k : i < tasks t = omega (arith, more) in rw (List·getD-append (t .priorities) (p ∷ []) 0 i k) (F .priorities i k))
-  ];
-  kinds-in = F .kinds-in;
-  waiting = λ i. rw (snoc-default none (t .waits) i) (F .waiting i);
-  blocked = λ i. rw (snoc-default none (t .waits) i) (still t (addTask t p) (λ m o e. (o, e)) (λ k h e. (h, e)) (waitOf t i) (F .blocked i));
-  timed = λ i. rw (snoc-default none (t .waits) i) (F .timed i);
-  owners = λ m o e. omega (arith, F .owners m o e, more);
-  ends = ends-same t (addTask t p) (λ x. next-same t (addTask t p) x (snoc-default none (t .waits) x) (λ m. refl)) (F .ends);
-  counts = F .counts;
-  outcomes = λ i h. rw (snoc-default none (t .waits) i, snoc-default granted (t .outcomes) i) (elim (decLt i (tasks t)) [
-    | yes k ↦ F .outcomes i k
-    | no n ↦ rw (wait-out t (F .wait-column) i (omega arith)) (inl (List·getD-eq-default (t .outcomes) granted (omega (arith, F .outcome-column))))
-  ]);
-}
-  where
-    more : length (t .priorities ++ (p ∷ [])) ≡ suc (tasks t)
-    more = length-snoc (t .priorities) p
+-- m gets another owner, or none: what is left to show is of those who wait, of the owners and of the chains
+module _ (t : Tables) (m : ℕ) (o : Option ℕ) where
+  same-length : length (set (t .owners) m o) ≡ mutexes t
+  same-length = length-set (t .owners) m o
 
-pub facts-addMutex : (t : Tables) (k : ℕ) → k < kinds → mutexes t < maxMutexes → Facts t → Facts (addMutex t k)
-facts-addMutex t k low room F = record {
-  wait-column = F .wait-column;
-  outcome-column = F .outcome-column;
-  kind-column = omega (arith, F .kind-column, length-snoc (t .kinds) k, more);
-  maximum-column = F .maximum-column;
-  few-tasks = F .few-tasks;
-  few-mutexes = omega (arith, more);
-  few-semaphores = F .few-semaphores;
-  priorities = F .priorities;
-  kinds-in = λ m h. elim (ℕ-discrete m (length (t .kinds))) [
-    | yes e ↦ rw (e, snoc-last k 0 (t .kinds)) low
-    | no n ↦ (let q : m < length (t .kinds) = omega (arith, more, F .kind-column) in
-        rw (List·getD-append (t .kinds) (k ∷ []) 0 m q) (F .kinds-in m (omega (arith, F .kind-column))))
-  ];
-  waiting = F .waiting;
-  blocked = λ i. still t (addMutex t k) (λ m o e. (o, snoc-default none (t .owners) m ∙ e)) (λ j h e. (h, e)) (waitOf t i) (F .blocked i);
-  timed = F .timed;
-  owners = λ m o e. F .owners m o (sym (snoc-default none (t .owners) m) ∙ e);
-  ends = ends-same t (addMutex t k) (λ x. next-same t (addMutex t k) x refl (snoc-default none (t .owners))) (F .ends);
-  counts = F .counts;
-  outcomes = F .outcomes;
-}
-  where
-    more : length (t .owners ++ (none ∷ [])) ≡ suc (mutexes t)
-    more = length-snoc (t .owners) none
+  owner-other : (k : ℕ) → (k ≡ m → ⊥) → ownerOf (give t m o) k ≡ ownerOf t k
+  owner-other k n = getD-set-other (t .owners) m k o none n
 
-pub facts-addSem : (t : Tables) (count max : ℕ) → 1 ≤ max → count ≤ max → semaphores t < maxSemaphores → Facts t → Facts (addSem t count max)
-facts-addSem t count max one low room F = record {
-  wait-column = F .wait-column;
-  outcome-column = F .outcome-column;
-  kind-column = F .kind-column;
-  maximum-column = omega (arith, F .maximum-column, length-snoc (t .maxima) max, more);
-  few-tasks = F .few-tasks;
-  few-mutexes = F .few-mutexes;
-  few-semaphores = omega (arith, more);
-  priorities = F .priorities;
-  kinds-in = F .kinds-in;
-  waiting = F .waiting;
-  blocked = λ i. still t (addSem t count max) (λ m o e. (o, e)) (λ k h e. (omega (arith, more), List·getD-append (t .counts) (count ∷ []) 0 k h ∙ e)) (waitOf t i) (F .blocked i);
-  timed = F .timed;
-  owners = F .owners;
-  ends = ends-same t (addSem t count max) (λ x. next-same t (addSem t count max) x refl (λ m. refl)) (F .ends);
-  counts = λ k h. elim (ℕ-discrete k (semaphores t)) [
-    | yes e ↦ rw (e, snoc-last count 0 (t .counts), ← F .maximum-column, snoc-last max 0 (t .maxima)) (low, one)
-    | no n ↦ (let q : k < semaphores t = omega (arith, more) in
-        rw (List·getD-append (t .counts) (count ∷ []) 0 k q, List·getD-append (t .maxima) (max ∷ []) 0 k (omega (arith, F .maximum-column))) (F .counts k q))
-  ];
-  outcomes = F .outcomes;
-}
-  where
-    more : length (t .counts ++ (count ∷ [])) ≡ suc (semaphores t)
-    more = length-snoc (t .counts) count
+  facts-owner : ((i : ℕ) → Blocked (give t m o) (waitOf t i)) → ((k r : ℕ) → ownerOf (give t m o) k ≡ some r → r < tasks t)
+      → ((i : ℕ) → Ends (next (give t m o)) (some i)) → Facts t → Facts (give t m o)
+  facts-owner blocks owned chains F = record {
+    wait-column = F .wait-column;
+    outcome-column = F .outcome-column;
+    kind-column = F .kind-column ∙ sym same-length;
+    maximum-column = F .maximum-column;
+    few-tasks = F .few-tasks;
+    few-mutexes = omega (arith, F .few-mutexes, same-length);
+    few-semaphores = F .few-semaphores;
+    priorities = F .priorities;
+    kinds-in = λ k q. F .kinds-in k (omega (arith, same-length));
+    waiting = F .waiting;
+    blocked = blocks;
+    timed = F .timed;
+    owners = owned;
+    ends = chains;
+    counts = F .counts;
+    outcomes = F .outcomes;
+  }
 
 -- m becomes o's, who waits for nothing; others may wait for m
 pub facts-give : (t : Tables) (m o : ℕ) → m < mutexes t → o < tasks t → waitOf t o ≡ none → Facts t → Facts (give t m (some o))
 unfolding next andThen mutexAwaited
-facts-give t m o h low idle F = record {
-  wait-column = F .wait-column;
-  outcome-column = F .outcome-column;
-  kind-column = F .kind-column ∙ sym same-length;
-  maximum-column = F .maximum-column;
-  few-tasks = F .few-tasks;
-  few-mutexes = omega (arith, F .few-mutexes, same-length);
-  few-semaphores = F .few-semaphores;
-  priorities = F .priorities;
-  kinds-in = λ k q. F .kinds-in k (omega (arith, same-length));
-  waiting = F .waiting;
-  blocked = λ i. still t (give t m (some o)) (λ k r e. elim (ℕ-discrete k m) [ yes p ↦ (o, rw p at-m) | no n ↦ (r, other k n ∙ e) ]) (λ k q e. (q, e)) (waitOf t i) (F .blocked i);
-  timed = F .timed;
-  owners = λ k r e. elim (ℕ-discrete k m) [
-    | yes p ↦ omega (arith, some-same (sym at-m ∙ rw p at e))
-    | no n ↦ F .owners k r (sym (other k n) ∙ e)
-  ];
-  ends = λ i. ends-pass o (rw idle refl) (λ x. each (mutexAwaited (waitOf t x))) (F .ends i .1);
-  counts = F .counts;
-  outcomes = F .outcomes;
-}
+facts-give t m o h low idle F = facts-owner t m (some o)
+    (λ i. still t (give t m (some o)) (λ k r e. elim (ℕ-discrete k m) [ yes p ↦ (o, rw p at-m) | no n ↦ (r, other k n ∙ e) ]) (λ k q e. (q, e)) (waitOf t i) (F .blocked i))
+    (λ k r e. elim (ℕ-discrete k m) [
+      | yes p ↦ omega (arith, some-same (sym at-m ∙ rw p at e))
+      | no n ↦ F .owners k r (sym (other k n) ∙ e)
+    ])
+    (λ i. ends-pass o (rw idle refl) (λ x. each (mutexAwaited (waitOf t x))) (F .ends i .1))
+    F
   where
-    same-length : length (set (t .owners) m (some o)) ≡ mutexes t
-    same-length = length-set (t .owners) m (some o)
-
     at-m : ownerOf (give t m (some o)) m ≡ some o
     at-m = getD-set-same (t .owners) m (some o) none h
 
     other : (k : ℕ) → (k ≡ m → ⊥) → ownerOf (give t m (some o)) k ≡ ownerOf t k
-    other k n = getD-set-other (t .owners) m k (some o) none n
+    other = owner-other t m (some o)
 
     each : (q : Option ℕ) → (andThen q (ownerOf (give t m (some o))) ≡ andThen q (ownerOf t)) ⊎ (andThen q (ownerOf (give t m (some o))) ≡ some o)
     each none = inl refl
@@ -185,38 +116,22 @@ facts-give t m o h low idle F = record {
 -- m, for which nobody waits, becomes free
 pub facts-free : (t : Tables) (m : ℕ) → ((i : ℕ) → mutexAwaited (waitOf t i) ≡ some m → ⊥) → Facts t → Facts (give t m none)
 unfolding next andThen mutexAwaited mutexIn
-facts-free t m nobody F = record {
-  wait-column = F .wait-column;
-  outcome-column = F .outcome-column;
-  kind-column = F .kind-column ∙ sym same-length;
-  maximum-column = F .maximum-column;
-  few-tasks = F .few-tasks;
-  few-mutexes = omega (arith, F .few-mutexes, same-length);
-  few-semaphores = F .few-semaphores;
-  priorities = F .priorities;
-  kinds-in = λ k q. F .kinds-in k (omega (arith, same-length));
-  waiting = F .waiting;
-  blocked = λ i. kept (waitOf t i) (nobody i) (F .blocked i);
-  timed = F .timed;
-  owners = λ k r e. elim (ℕ-discrete k m) [
-    | yes p ↦ none-some (freed k p) e
-    | no n ↦ F .owners k r (sym (other k n) ∙ e)
-  ];
-  ends = ends-same t (give t m none) (λ x. each (mutexAwaited (waitOf t x)) (nobody x)) (F .ends);
-  counts = F .counts;
-  outcomes = F .outcomes;
-}
+facts-free t m nobody F = facts-owner t m none
+    (λ i. kept (waitOf t i) (nobody i) (F .blocked i))
+    (λ k r e. elim (ℕ-discrete k m) [
+      | yes p ↦ none-some (freed k p) e
+      | no n ↦ F .owners k r (sym (other k n) ∙ e)
+    ])
+    (ends-same t (give t m none) (λ x. each (mutexAwaited (waitOf t x)) (nobody x)) (F .ends))
+    F
   where
-    same-length : length (set (t .owners) m none) ≡ mutexes t
-    same-length = length-set (t .owners) m none
-
     other : (k : ℕ) → (k ≡ m → ⊥) → ownerOf (give t m none) k ≡ ownerOf t k
-    other k n = getD-set-other (t .owners) m k none none n
+    other = owner-other t m none
 
     freed : (k : ℕ) → k ≡ m → ownerOf (give t m none) k ≡ none
     freed k p = elim (decLt m (mutexes t)) [
       | yes h ↦ rw p (getD-set-same (t .owners) m none none h)
-      | no h ↦ List·getD-eq-default (set (t .owners) m none) none (omega (arith, same-length))
+      | no h ↦ List·getD-eq-default (set (t .owners) m none) none (omega (arith, same-length t m none))
     ]
 
     each : (q : Option ℕ) → (q ≡ some m → ⊥) → andThen q (ownerOf (give t m none)) ≡ andThen q (ownerOf t)

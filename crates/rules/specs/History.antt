@@ -7,9 +7,8 @@ use lib.Dec.{leb, eqb}
 use lib.ListN.{length, getD}
 use Rattle.lists.specs.Test.{_and_, holds}
 use Rattle.lists.specs.Order.{keep, leastFirst}
-use Rattle.chains.specs.Chain.{on}
 use Rattle.chains.specs.Least.{leastLeading}
-use Rattle.rules.specs.Sizes.{kinds, inheriting, forever}
+use Rattle.rules.specs.Sizes.{inheriting, forever}
 use Rattle.rules.specs.Tables.{Awaited, mutexOf, semOf, time}
 use Rattle.rules.specs.Levels.{mutexIn, andThen, sameAwaited}
 use Rattle.rules.specs.Step.{Step, task, mutex, sem, start, lock, unlock, pend, post, flush, sleep, yield, hold, free, tick, level, outcome}
@@ -65,9 +64,13 @@ begunMutex (some b) = mutexIn (b .on)
 unfoldable pub toldNext : Told → ℕ → Option ℕ
 toldNext h i = andThen (begunMutex (h .wait i)) (h .owner)
 
+-- m's owner, where m is inheriting
+abbrev pub toldHeir : Told → ℕ → Option ℕ
+toldHeir h m = cond (eqb (getD (h .kinds) m 0) inheriting) (h .owner m) none
+
 -- the owner of the inheriting mutex for which i waits
 unfoldable pub toldLends : Told → ℕ → Option ℕ
-toldLends h i = andThen (begunMutex (h .wait i)) (λ m. cond (eqb (getD (h .kinds) m 0) inheriting) (h .owner m) none)
+toldLends h i = andThen (begunMutex (h .wait i)) (toldHeir h)
 
 -- the level as the history defines it
 unfoldable pub toldLevel : Told → ℕ → ℕ
@@ -104,7 +107,7 @@ unfoldable pub endsOf : Told → Option ℕ → Told
 endsOf h none = h
 endsOf h (some w) = endsWhere h (eqb w)
 
--- "Each wait begun with time t ends at the t-th tick after it."
+-- "Each wait begun with time t ends at the t-th tick after it"
 unfoldable pub timeUp : Option Begun → Bool
 timeUp none = false
 timeUp (some b) = not (eqb (b .time) forever) and eqb (b .ticks + 1) (b .time)

@@ -2,13 +2,15 @@
 use mathlib.Core.Path.{_≡_, refl, sym, _∙_}
 use mathlib.Core.Logic.{_⊎_, inl, inr}
 use mathlib.Core.Option.{Option, none, some}
-use Prim.Native.Nat.{ℕ, _≤_, _<_}
+use Prim.Native.Nat.{ℕ, zero, suc, _≤_, _<_}
 use native.Mathlib.Omega.{arith}
 use native.Mathlib.Decide.{decLt}
 use lib.Dec.{eqb}
 use lib.ListN.{length, List·getD-eq-default}
+use borrow.Author.Tests.{ne-eqb}
+use Rattle.lists.specs.Order.{before}
 use Rattle.lists.specs.TestLaws.{by-test, none-some}
-use Rattle.chains.specs.Chain.{Chain, Ended}
+use Rattle.chains.specs.Chain.{Chain, walk, Ended}
 use Rattle.chains.specs.Least.{Recursive}
 use Rattle.chains.specs.ChainLaws.{walk-is-chain, walk-short, ends-drop}
 use Rattle.chains.specs.LeastLaws.{leading-att, leading-recursive, leading-only}
@@ -79,6 +81,15 @@ module _ (t : Tables) (F : Facts t) where
   -- "1 to 15": the one bound here that depends on the number of tasks in the table, `maxTasks`
   pub links-at-most : (r m : ℕ) → r < tasks t → linksOf t r m ≤ 15
   links-at-most r m h = omega (arith, links-below r m h, F .few-tasks)
+
+  -- and at least 1: the owner, which is not the caller, stands on the chain
+  pub links-at-least : (r m o : ℕ) → ownerOf t m ≡ some o → (o ≡ r → ⊥) → 1 ≤ linksOf t r m
+  unfolding chainOf walk before
+  links-at-least r m o e n = rw e (go (tasks t) (omega (arith, F .owners m o e)))
+    where
+      go : (f : ℕ) → 0 < f → 1 ≤ length (before r (walk f (next t) (some o)))
+      go zero h = absurd (omega arith)
+      go (suc f) h = rw (ne-eqb o r n) (omega arith)
 
   -- "A task's level is the smallest of its own priority and the levels of all tasks waiting on inheriting mutexes that it owns": so it is
   pub level-recursive : Recursive (tasks t) (lends t) (priorityOf t) (levelIn t)

@@ -1,3 +1,4 @@
+-- The rules of the kernel, their laws and the demand over lists of steps: the names that other crates use.
 pub mod Sizes
 pub mod Tables
 pub mod Levels
@@ -14,6 +15,7 @@ pub mod LevelLaws
 pub mod FactsLaws
 pub mod SettleLaws
 pub mod WaiterLaws
+pub mod CreationLaws
 pub mod StepLaws
 pub mod SoundLaws
 pub mod Vectors

@@ -5,16 +5,12 @@ use mathlib.Core.Option.{Option, none, some}
 use Prim.Native.Nat.{ℕ}
 use lib.Dec.{leb}
 use lib.ListN.{length, drop}
+use Rattle.text.specs.Fields.{tab}
+use Rattle.text.specs.Lines.{lf}
 use Rattle.decimal.specs.Decimal.{decimal}
 use Rattle.rules.specs.State.{State}
 use Rattle.rules.specs.Step.{Step}
 use Rattle.rules.specs.Answer.{Answer, stopped, step}
-
-abbrev pub tab : ℕ
-tab = 9
-
-abbrev pub lf : ℕ
-lf = 10
 
 -- the byte of "-"
 abbrev pub dash : ℕ

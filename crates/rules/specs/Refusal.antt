@@ -21,11 +21,11 @@ infix 20 _when_
 abbrev pub _when_ : ℕ → Bool → Row
 k when b = record { number = k; when = b; value = 0 }
 
--- "a waiting time is 0, 1 to 2147483647 ticks, or 4294967295 (forever)"
+-- "A waiting time is 0 (don't wait), 1 to 2147483647 ticks, or 4294967295 (forever)."
 abbrev pub isWaitingTime : ℕ → Bool
 isWaitingTime t = leb t maxTicks or eqb t forever
 
--- "sleep t: t is 1 to 2147483647"
+-- "sleep t: waits t ticks; t is 1 to 2147483647."
 abbrev pub isSleepTime : ℕ → Bool
 isSleepTime t = ltb 0 t and leb t maxTicks
 
@@ -36,7 +36,7 @@ held s = ltb 0 (s .hold)
 abbrev pub noCaller : State → Bool
 noCaller s = not (someb (s .running))
 
--- the caller's test, passed by nobody where none runs
+-- a test of the caller, which fails where none runs
 unfoldable pub ofCaller : Option ℕ → (ℕ → Bool) → Bool
 ofCaller none p = false
 ofCaller (some r) p = p r

@@ -10,25 +10,25 @@ use native.Mathlib.Decide.{ℕ-discrete}
 use lib.Dec.{ltb, leb, eqb}
 use lib.ListN.{length, take, drop, length-append, length-drop}
 use lib.Seq.{take-at, drop-at}
-use borrow.Author.Tests.{eqb-true, not-false, lt-ltb, le-ltb, le-leb, lt-leb, eq-eqb}
+use borrow.Author.Tests.{eqb-true, not-false, lt-ltb, le-ltb, le-leb, lt-leb}
 use Rattle.lists.specs.Test.{_and_, holds}
-use Rattle.lists.specs.Count.{eqn, occ, member}
-use Rattle.lists.specs.Order.{keep, upTo, byId, insertTail, Asc}
+use Rattle.lists.specs.Count.{eqn, occ}
+use Rattle.lists.specs.Order.{insertTail}
 use Rattle.lists.specs.TestLaws.{which, clash, by-test, and-l, and-false, none-some, some-same, true-some, holds-true}
-use Rattle.lists.specs.CountLaws.{eqn-at, eqn-other, occ-head, below-out}
-use Rattle.lists.specs.OrderLaws.{stable-asc, stable-snoc, keep-all, keep-none, keep-append, occ-upTo}
+use Rattle.lists.specs.CountLaws.{eqn-at, eqn-other}
 use Rattle.rules.specs.Tables.{mutexOf, semOf, tasks, ownerOf}
 use Rattle.rules.specs.Levels.{bestWaiter}
 use Rattle.rules.specs.State.{State, placed, levelOf}
 use Rattle.rules.specs.Step.{Step, task, mutex, sem, start, lock, unlock, pend, post, flush, sleep, yield, hold, free, tick, level, outcome}
 use Rattle.rules.specs.Effect.{Effect, done, callerWaits, lockBy, passOn, pendBy, credit, flushOf, tickOf, yieldBy, called, effect}
-use Rattle.rules.specs.Settle.{settledReady, settle, meet, dispatch, finish}
+use Rattle.rules.specs.Settle.{settle, meet, dispatch, finish}
 use Rattle.rules.specs.Refusal.{Row, held, ofCaller, taken, noCredit, refusals, firstRow, tableOrder}
 use Rattle.rules.specs.Sound.{soundb}
-use Rattle.rules.specs.Answer.{Answer, refused, accepted, decide, stepSound, standing, stopped, step}
+use Rattle.rules.specs.Answer.{Answer, answered, decide, stepSound, standing, stopped, step}
 use Rattle.rules.specs.Log.{logLine, withRoom, memoryAfter, Call, inRoom, call}
 use Rattle.rules.specs.Invariant.{Inv}
-use Rattle.rules.specs.StepLaws.{passed, caller-in}
+use Rattle.rules.specs.SettleLaws.{settled-one}
+use Rattle.rules.specs.StepLaws.{passed, held-runs, caller-in}
 use Rattle.rules.specs.SoundLaws.{inv-sound}
 
 -- the first list is a part of the second, in the second's order
@@ -87,7 +87,7 @@ refused-above zero h = absurd (omega arith)
 refused-above (suc zero) h = absurd (omega arith)
 refused-above (suc (suc n)) h = omega arith
 
--- what holds of a step with a caller
+-- what holds of a step that needs a caller, with none running and with any
 caller-by : (P : Effect → Type 0) (s : State) (o : Option ℕ) (f : ℕ → Effect) → P (done s [] 0) → ((r : ℕ) → P (f r)) → P (called s o f)
 unfolding called
 caller-by P s none f g h = g
@@ -126,8 +126,8 @@ accepted-number s (level i) = omega arith
 accepted-number s (outcome i) = omega arith
 
 -- what holds of every answer to a step, and to a step with a log line
-pub step-by : (P : Answer → Type 0) (s : State) (x : Step) → ((r : Row) → firstRow (refusals s x) ≡ some r → P (refused s (r .number) (r .value)))
-    → (firstRow (refusals s x) ≡ none → P (accepted (finish s (effect s x)) ((effect s x) .number) ((effect s x) .value)))
+pub step-by : (P : Answer → Type 0) (s : State) (x : Step) → ((r : Row) → firstRow (refusals s x) ≡ some r → P (answered s (r .number) (r .value)))
+    → (firstRow (refusals s x) ≡ none → P (answered (finish s (effect s x)) ((effect s x) .number) ((effect s x) .value)))
     → (soundb s ≡ false → P (stopped s 15)) → P (step s x)
 unfolding step stepSound decide
 step-by P s x f g h = by-test P (soundb s) (λ e. go (firstRow (refusals s x)) refl) h
@@ -150,20 +150,6 @@ refused-unchanged s x = step-by (λ a. 1 < a .number → a .state ≡ s) s x (λ
 
 pub call-unchanged : (s : State) (c : Call) → 1 < (call s c) .number → (call s c) .state ≡ s
 call-unchanged s c = call-by (λ a. 1 < a .number → a .state ≡ s) s c (refused-unchanged s (c .made)) (λ h. refl)
-
--- every number that comes back is one of the document's table
-abbrev pub numbers : List ℕ
-numbers = 0 ∷ 1 ∷ 15 ∷ tableOrder
-
-pub call-number : (s : State) (c : Call) → 1 ≤ occ ((call s c) .number) numbers
-unfolding occ eqn
-call-number s c = call-by (λ a. 1 ≤ occ (a .number) numbers) s c (step-by (λ a. 1 ≤ occ (a .number) numbers) s (c .made)
-    (λ r e. omega (arith, refused-number s (c .made) r e)) (λ e. small ((effect s (c .made)) .number) (accepted-number s (c .made))) (λ e. omega arith)) (omega arith)
-  where
-    small : (n : ℕ) → n ≤ 1 → 1 ≤ occ n numbers
-    small zero h = omega arith
-    small (suc zero) h = omega arith
-    small (suc (suc n)) h = absurd (omega arith)
 
 -- "until its own accepted unlock of it": an accepted unlock is the owner's
 pub unlock-own : (s : State) (m : ℕ) → (step s (unlock m)) .number ≤ 1 → (r : ℕ) × (s .running ≡ some r) × (ownerOf (s .tables) m ≡ some r)
@@ -245,35 +231,19 @@ held-stays s I c h = call-by Stays s c (step-by Stays s (c .made) (λ r e k. ref
     Stays a = 1 ≤ a .state .hold → a .run ≡ s .running
 
     runner : (r : ℕ) × (s .running ≡ some r)
-    runner = elim (which (s .started)) [ inl e ↦ I .when-started e .hold-runs h | inr e ↦ absurd (omega (arith, I .in-set-up e .hold-0)) ]
+    runner = held-runs s I h
 
     accept : firstRow (refusals s (c .made)) ≡ none → 1 ≤ (finish s (effect s (c .made))) .hold → (finish s (effect s (c .made))) .running ≡ s .running
     accept e k = finish-held s (effect s (c .made)) (runner .0) (effect-held s (c .made) (lt-ltb 0 (s .hold) h) e ∙ runner .1) k ∙ sym (runner .1)
 
--- "yield: the caller goes to the tail of its level"
-only-one : (p : ℕ → Bool) (r : ℕ) → p r ≡ true → ((y : ℕ) → (y ≡ r → ⊥) → p y ≡ false) → (n : ℕ) → r < n → keep p (upTo n) ≡ r ∷ []
-unfolding keep upTo
-only-one p r passes others zero h = absurd (omega arith)
-only-one p r passes others (suc n) h = elim (ℕ-discrete r n) [
-  | yes e ↦ keep-append p (upTo n) (n ∷ []) ∙ rw (keep-none p (upTo n) (λ y m. others y (λ q. omega (arith, occ-upTo y n, below-out y n (omega arith)))), ← e, passes) refl
-  | no q ↦ keep-append p (upTo n) (n ∷ []) ∙ rw (only-one p r passes others n (omega arith), others n (λ e. q (sym e))) refl
-]
-
-settled-yield : (n r : ℕ) (f : ℕ → ℕ) (ready : List ℕ) → r < n → Asc f ready → settledReady n f f ready (r ∷ []) ≡ insertTail f r ready
-unfolding settledReady byId _and_ occ
-settled-yield n r f ready h a = rw (
-  keep-all (λ i. eqb (f i) (f i)) ready (λ y m. eq-eqb (f y) (f y) refl),
-  keep-none (λ i. not (eqb (f i) (f i)) and member i ready) (upTo n) (λ y m. rw (eq-eqb (f y) (f y) refl) refl),
-  only-one (λ i. member i (r ∷ [])) r (lt-ltb 0 (occ r (r ∷ [])) (occ-head r [])) (λ y q. le-ltb 0 (occ y (r ∷ [])) (omega (arith, eqn-other r y (λ e. q (sym e))))) n h,
-) (stable-snoc f ready r ∙ ap (insertTail f r) (stable-asc f ready a))
-
--- who is first in the order then runs
+-- the state's own running task and ready order do not count
 meet-again : (s : State) (q r : Option ℕ) (k l : List ℕ) → meet (placed s q k) r l ≡ meet s r l
 unfolding meet
 meet-again s q r k [] = refl
 meet-again s q none k (x ∷ l) = refl
 meet-again s q (some r) k (x ∷ l) = refl
 
+-- "yield: the caller goes to the tail of its level, then the first ready task runs, perhaps the same one."
 pub yield-to-tail : (s : State) → Inv s → (r : ℕ) → s .started ≡ true → s .running ≡ some r → s .hold ≡ 0
     → (step s yield) .state ≡ meet s none (insertTail (levelOf s) r (s .ready))
 unfolding refusals firstRow effect called yieldBy finish dispatch
@@ -287,7 +257,7 @@ yield-to-tail s I r began run unheld = step-by (λ a. a .state ≡ next) s yield
 
     go : (o : Option ℕ) → o ≡ some r → finish s (called s o (yieldBy s)) ≡ next
     go o q = rw q (by-test (λ (z : State). z ≡ next) (s .started)
-        (λ e. meet-again s none none _ _ ∙ ap (meet s none) (settled-yield (tasks (s .tables)) r (levelOf s) (s .ready) (caller-in s I r run) (I .ascending))) (λ e. absurd (clash began e)))
+        (λ e. meet-again s none none _ _ ∙ ap (meet s none) (settled-one (tasks (s .tables)) r (levelOf s) (levelOf s) (s .ready) (caller-in s I r run) (λ i m. refl) (I .ascending))) (λ e. absurd (clash began e)))
 
 -- 15: "the state handed in isn't sound", and no task is named
 pub unsound-15 : (s : State) (x : Step) → soundb s ≡ false → step s x ≡ record { state = s; number = 15; value = 0; run = none }

@@ -11,11 +11,10 @@ use lib.Dec.{ltb, leb, eqb}
 use borrow.Author.Tests.{ltb-true, ltb-false, lt-ltb, le-ltb, eq-eqb}
 use Rattle.lists.specs.Test.{_and_}
 use Rattle.lists.specs.Count.{occ, member, below, opt}
-use Rattle.lists.specs.Order.{keep, upTo, byId, place, insertTail, insertHead, stable, Asc, before}
+use Rattle.lists.specs.Order.{keep, byId, place, insertTail, insertHead, stable, Asc}
 use Rattle.lists.specs.TestLaws.{which, clash, by-test, and-r, true-and, and-false, some-same}
-use Rattle.lists.specs.CountLaws.{eqn-at, eqn-other, occ-append, below-out}
-use Rattle.lists.specs.OrderLaws.{occ-place, asc-first, asc-insertHead, asc-stable, occ-stable, stable-asc, stable-snoc, keep-all, keep-none, keep-append, occ-upTo, occ-byId, occ-split, asc-change}
-use Rattle.chains.specs.Chain.{on}
+use Rattle.lists.specs.CountLaws.{eqn-other, occ-append, occ-head}
+use Rattle.lists.specs.OrderLaws.{occ-place, asc-first, asc-insertHead, asc-stable, occ-stable, stable-asc, stable-snoc, keep-all, occ-byId, occ-split, asc-change, byId-none, byId-one}
 use Rattle.rules.specs.Sizes.{wordSize, maxHold}
 use Rattle.rules.specs.Tables.{tasks}
 use Rattle.rules.specs.State.{State, placed, levelOf}
@@ -47,11 +46,11 @@ occ-settled n old new ready woken i h k =
 -- where no ready task's level changed, only those that became ready move
 settled-unchanged : (n : ℕ) (old new : ℕ → ℕ) (ready woken : List ℕ) → ((i : ℕ) → 1 ≤ occ i ready → new i ≡ old i)
     → settledReady n old new ready woken ≡ stable new (ready ++ byId n (λ i. member i woken))
-unfolding settledReady byId _and_
+unfolding settledReady _and_
 settled-unchanged n old new ready woken h =
     rw (
       keep-all same ready (λ y m. eq-eqb (new y) (old y) (h y m)),
-      keep-none (λ i. not (same i) and member i ready) (upTo n) (λ y m. nobody y),
+      byId-none n (λ i. not (same i) and member i ready) nobody,
     ) refl
   where
     same : ℕ → Bool
@@ -69,28 +68,26 @@ settled-unchanged n old new ready woken h =
 
 pub settled-same : (n : ℕ) (old new : ℕ → ℕ) (ready : List ℕ) → ((i : ℕ) → 1 ≤ occ i ready → new i ≡ old i) → Asc old ready
     → settledReady n old new ready [] ≡ ready
-unfolding byId occ
+unfolding occ
 settled-same n old new ready h a =
     settled-unchanged n old new ready [] h
-    ∙ rw (keep-none (λ i. member i []) (upTo n) (λ y m. refl), append-nil ready) (stable-asc new ready (asc-change old new ready (λ y m. sym (h y m)) a))
+    ∙ rw (byId-none n (λ i. member i []) (λ y. refl), append-nil ready) (stable-asc new ready (asc-change old new ready (λ y m. sym (h y m)) a))
 
--- the task made last goes to the tail of its level
+-- the one task that became ready goes to the tail of its level
+pub settled-one : (n r : ℕ) (old new : ℕ → ℕ) (ready : List ℕ) → r < n → ((i : ℕ) → 1 ≤ occ i ready → new i ≡ old i) → Asc old ready
+    → settledReady n old new ready (r ∷ []) ≡ insertTail new r ready
+unfolding occ
+settled-one n r old new ready low h a =
+    settled-unchanged n old new ready (r ∷ []) h
+    ∙ rw (
+      byId-one n r (λ i. member i (r ∷ [])) low (lt-ltb 0 (occ r (r ∷ [])) (occ-head r [])) (λ y q. le-ltb 0 (occ y (r ∷ [])) (omega (arith, eqn-other r y (λ e. q (sym e))))),
+      stable-snoc new ready r,
+    ) (ap (insertTail new r) (stable-asc new ready (asc-change old new ready (λ y m. sym (h y m)) a)))
+
+-- so does the task made last
 pub settled-made : (n : ℕ) (old new : ℕ → ℕ) (ready : List ℕ) → ((i : ℕ) → 1 ≤ occ i ready → new i ≡ old i) → Asc old ready
     → settledReady (suc n) old new ready (n ∷ []) ≡ insertTail new n ready
-unfolding byId upTo keep occ
-settled-made n old new ready h a =
-    settled-unchanged (suc n) old new ready (n ∷ []) h
-    ∙ rw (last, stable-snoc new ready n) (ap (insertTail new n) (stable-asc new ready (asc-change old new ready (λ y m. sym (h y m)) a)))
-  where
-    p : ℕ → Bool
-    p i = member i (n ∷ [])
-
-    last : keep p (upTo n ++ (n ∷ [])) ≡ n ∷ []
-    last = keep-append p (upTo n) (n ∷ [])
-        ∙ rw (
-          keep-none p (upTo n) (λ y m. le-ltb 0 (occ y (n ∷ [])) (omega (arith, eqn-other n y (λ e. omega (arith, occ-upTo y n, below-out y n (omega arith)))))),
-          lt-ltb 0 (occ n (n ∷ [])) (omega (arith, eqn-at n n refl)),
-        ) refl
+settled-made n old new ready = settled-one (suc n) n old new ready (omega arith)
 
 -- "Equal levels never displace"
 pub equal-stays : (s : State) (r x : ℕ) (l : List ℕ) → levelOf s r ≤ levelOf s x → meet s (some r) (x ∷ l) ≡ placed s (some r) (x ∷ l)

@@ -1,4 +1,4 @@
--- Sizes and ranges, each named once. No law depends on their values but where it says so.
+-- Sizes, ranges and outcomes, each named once. The laws of lists and chains hold for every size.
 use Prim.Native.Nat.{ℕ}
 
 -- "Tasks 0 to 15, mutexes 0 to 7, semaphores 0 to 7"

@@ -3,7 +3,6 @@ use mathlib.Core.List.{List, []}
 use mathlib.Core.Bool.{Bool, false}
 use mathlib.Core.Option.{Option, none}
 use Prim.Native.Nat.{ℕ}
-use Rattle.rules.specs.Sizes.{kinds}
 use Rattle.rules.specs.Tables.{Tables}
 use Rattle.rules.specs.Levels.{levelIn}
 

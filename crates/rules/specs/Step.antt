@@ -13,6 +13,13 @@ pub data Step : Type 0 where
   -- pend s t
   pend : ℕ → ℕ → Step
   post flush sleep : ℕ → Step
-  yield hold free tick : Step
-  -- level i, outcome i
+  yield : Step
+  -- document 01's terms "hold" and "free": "depth up or down by one". The field says that the scheduler is locked and unlocked; the locks
+  -- nest, and "hold depth" counts them.
+  hold free : Step
+  tick : Step
+  -- level i, outcome i: "the value; any phase"
+  -- document 01's term "level": the field's effective priority of a task (Levels).
+  -- document 01's term "outcome": what the last wait of a task came to, 1 while it waits and 0 before its first ("outcomes 0, 1, 20 or 21, and
+  -- 1 exactly for waiting tasks"; Sizes names them).
   level outcome : ℕ → Step

@@ -4,35 +4,33 @@ use mathlib.Core.List.{List, [], _∷_}
 use mathlib.Core.Bool.{Bool, true, false, not}
 use mathlib.Core.Logic.{inl, inr}
 use mathlib.Core.Option.{Option, none, some}
-use Prim.Native.Nat.{ℕ, suc, _+_, _-_, _%_, _≤_, _<_}
+use Prim.Native.Nat.{ℕ, _+_, _-_, _%_, _≤_, _<_}
 use native.Mathlib.Omega.{arith}
 use lib.Dec.{ltb, eqb}
-use lib.ListN.{List·getD-append}
 use borrow.Author.Tests.{ltb-true, ltb-false, leb-true, leb-false, eqb-true, eqb-false, not-false, eq-eqb, ne-eqb}
 use Rattle.lists.specs.Test.{_and_, someb}
 use Rattle.lists.specs.Count.{occ, below, opt}
-use Rattle.lists.specs.Order.{keep, insertTail, Ties, inside}
+use Rattle.lists.specs.Order.{keep, Ties}
 use Rattle.lists.specs.TestLaws.{which, clash, by-test, and-l, and-r, and-false, or-true, or-none, none-some, some-true}
-use Rattle.lists.specs.CountLaws.{occ-append, occ-opt, below-out, in-below, below-le, below-suc}
-use Rattle.lists.specs.OrderLaws.{ties-insertTail, asc-change, ties-change}
-use Rattle.lists.specs.TableLaws.{snoc-default, length-snoc}
-use Rattle.chains.specs.Chain.{end, link, on}
+use Rattle.lists.specs.CountLaws.{occ-append, occ-opt, below-out, in-below, below-le}
+use Rattle.chains.specs.Chain.{end, link}
 use Rattle.rules.specs.Sizes.{maxTasks, maxMutexes, maxSemaphores, levels, kinds, wordSize, maxHold, maxTicks, forever, granted, flushed}
-use Rattle.rules.specs.Tables.{Awaited, mutexOf, semOf, time, Wait, Tables, tasks, mutexes, semaphores, priorityOf, outcomeOf, waitOf, ownerOf, countOf, maximumOf}
-use Rattle.rules.specs.Levels.{mutexAwaited, andThen, next, levelIn, linksOf, closesRing, awaits, bestWaiter}
+use Rattle.rules.specs.Tables.{Awaited, mutexOf, semOf, time, Wait, Tables, tasks, mutexes, semaphores, outcomeOf, waitOf, ownerOf, countOf, maximumOf}
+use Rattle.rules.specs.Levels.{mutexAwaited, andThen, next, linksOf, closesRing, awaits, bestWaiter}
 use Rattle.rules.specs.State.{State, fresh, withTables, withStarted, withClock, withHold, levelOf}
 use Rattle.rules.specs.Step.{Step, task, mutex, sem, start, lock, unlock, pend, post, flush, sleep, yield, hold, free, tick, level, outcome}
-use Rattle.rules.specs.Effect.{Effect, done, addTask, addMutex, addSem, give, setCount, endWaits, ended, ticksOf, waitFor, callerWaits, lockBy, passOn, pendBy, credit, flushOf, isDue, due, outcomeDue, ageAll, tickOf, yieldBy, called, effect}
-use Rattle.rules.specs.Settle.{settledReady, settle, finish}
+use Rattle.rules.specs.Effect.{Effect, done, give, setCount, endWaits, ended, ticksOf, waitFor, callerWaits, lockBy, passOn, pendBy, credit, flushOf, isDue, due, outcomeDue, ageAll, tickOf, yieldBy, called, effect}
+use Rattle.rules.specs.Settle.{settle, finish}
 use Rattle.rules.specs.Refusal.{Row, isWaitingTime, isSleepTime, held, ofCaller, taken, noCredit, noSuchMutex, noSuchSem, refusals, firstRow}
 use Rattle.rules.specs.Sound.{waitCount}
 use Rattle.rules.specs.Answer.{decide, stepSound}
 use Rattle.rules.specs.Invariant.{Unavailable, Left, Outcome, Facts, HoldRuns, SetUp, Started, Inv}
-use Rattle.rules.specs.FactsLaws.{facts-addTask, facts-addMutex, facts-addSem, facts-give, facts-free, facts-begin, wait-ended, facts-end, facts-count, facts-age}
-use Rattle.rules.specs.SettleLaws.{settled-same, settled-made, finish-inv}
-use Rattle.rules.specs.WaiterLaws.{wait-none, awaits-waits, mutex-awaits, sem-blocked, not-due, outcome-due, level-alone, wait-in, best-waits, nobody-best, places-end}
+use Rattle.rules.specs.FactsLaws.{facts-give, facts-free, facts-begin, wait-ended, facts-end, facts-count, facts-age}
+use Rattle.rules.specs.SettleLaws.{settled-same, finish-inv}
+use Rattle.rules.specs.WaiterLaws.{wait-none, awaits-waits, mutex-awaits, sem-blocked, not-due, outcome-due, wait-in, best-waits, nobody-best, places-end}
+use Rattle.rules.specs.CreationLaws.{mutex-inv, sem-inv, task-inv}
 
--- a row that does not apply, and those after it
+-- where no row applies, the first does not, and none of those after it
 pub passed : (r : Row) (rs : List Row) → firstRow (r ∷ rs) ≡ none → (r .when ≡ false) × (firstRow rs ≡ none)
 unfolding firstRow
 passed r rs e = elim (which (r .when)) [ inl q ↦ none-some (rw q at e) refl | inr q ↦ (q, rw q at e) ]
@@ -60,7 +58,17 @@ left-sleep t e =
 pub sleep-no-mutex : {A : Type 0} {m : ℕ} → time ≡ mutexOf m → A
 sleep-no-mutex q = absurd (let z : _≡_ {A = ℕ} 0 1 = cc in omega arith)
 
+-- what a step that needs a caller gives, where it is not refused as 5
+pub called-by : (P : Effect → Type 0) (s : State) (o : Option ℕ) (f : ℕ → Effect) → not (someb o) ≡ false → ((r : ℕ) → o ≡ some r → P (f r)) → P (called s o f)
+unfolding called someb
+called-by P s none f e h = absurd (clash refl e)
+called-by P s (some r) f e h = h r refl
+
 module _ (s : State) (I : Inv s) where
+  -- "hold above 0 only with a running task", in both phases
+  pub held-runs : HoldRuns s
+  held-runs h = elim (which (s .started)) [ inl e ↦ I .when-started e .hold-runs h | inr e ↦ absurd (omega (arith, I .in-set-up e .hold-0)) ]
+
   -- the caller of a step
   module _ (r : ℕ) (run : s .running ≡ some r) where
     pub caller-in : r < tasks (s .tables)
@@ -75,22 +83,13 @@ module _ (s : State) (I : Inv s) where
   no-set-up : {A : Type 0} → not (s .started) ≡ false → s .started ≡ false → A
   no-set-up e f = absurd (clash (not-false (s .started) e) f)
 
-  -- what a step called by nobody or somebody gives
-  called-by : (P : Effect → Type 0) (o : Option ℕ) (f : ℕ → Effect) → not (someb o) ≡ false → ((r : ℕ) → o ≡ some r → P (f r)) → P (called s o f)
-  unfolding called someb
-  called-by P none f e h = absurd (clash refl e)
-  called-by P (some r) f e h = h r refl
-
   abbrev Keeps : Effect → Type 0
   Keeps e = Inv (finish s e)
 
   -- a step that changes nothing
   idle-inv : (v : ℕ) → Inv (finish s (done s [] v))
-  idle-inv v = finish-inv s (done s [] v) (I .facts) (I .clock-in) (I .hold-in) (I .places) hold-runs set-up
+  idle-inv v = finish-inv s (done s [] v) (I .facts) (I .clock-in) (I .hold-in) (I .places) held-runs set-up
     where
-      hold-runs : HoldRuns s
-      hold-runs h = elim (which (s .started)) [ inl e ↦ I .when-started e .hold-runs h | inr e ↦ absurd (omega (arith, I .in-set-up e .hold-0)) ]
-
       set-up : s .started ≡ false → SetUp (settle (levelOf s) s [])
       set-up e = let U = I .in-set-up e in record {
         clock-0 = U .clock-0;
@@ -101,79 +100,6 @@ module _ (s : State) (I : Inv s) where
         outcomes-0 = U .outcomes-0;
         by-id = subst (Ties (levelOf s)) (sym (settled-same (tasks (s .tables)) (levelOf s) (levelOf s) (s .ready) (λ i m. refl) (I .ascending))) (U .by-id);
       }
-
-  -- creation, in set-up, where a level is the own priority
-  module _ (off : s .started ≡ false) where
-    U : SetUp s
-    U = I .in-set-up off
-
-    -- nobody waits, so nobody lends
-    alone : (t : Tables) → Facts t → ((i : ℕ) → occ i (t .waiting) ≡ 0) → (i : ℕ) → i < tasks t → levelIn t i ≡ priorityOf t i
-    alone t F h i k = level-alone t F (λ j. wait-none (waitOf t j) (sym (F .waiting j) ∙ h j)) i k
-
-    ready-in : (i : ℕ) → 1 ≤ occ i (s .ready) → i < tasks (s .tables)
-    ready-in i m = in-below i (tasks (s .tables)) (omega (arith, I .places i))
-
-    ready-alone : (t : Tables) → Facts t → ((i : ℕ) → occ i (t .waiting) ≡ 0) → tasks (s .tables) ≤ tasks t
-        → ((i : ℕ) → i < tasks (s .tables) → priorityOf t i ≡ priorityOf (s .tables) i) → (i : ℕ) → 1 ≤ occ i (s .ready) → levelIn t i ≡ levelOf s i
-    ready-alone t F h le same i m = let k = ready-in i m in
-        alone t F h i (omega arith) ∙ (same i k ∙ sym (alone (s .tables) (I .facts) (U .nobody-waits) i k))
-
-    -- a creation that makes no task
-    made-inv : (t : Tables) (v : ℕ) → Facts t → tasks t ≡ tasks (s .tables) → t .waiting ≡ s .tables .waiting → ((m : ℕ) → ownerOf t m ≡ none)
-        → ((i : ℕ) → outcomeOf t i ≡ granted) → ((i : ℕ) → priorityOf t i ≡ priorityOf (s .tables) i) → Keeps (done (withTables s t) [] v)
-    made-inv t v F n w o c p = finish-inv s (done (withTables s t) [] v) F (I .clock-in) (I .hold-in)
-        (λ i. omega (arith, I .places i, ap (occ i) w, ap (below i) n)) (λ h. absurd (omega (arith, U .hold-0)))
-        (λ e. record {
-          clock-0 = U .clock-0;
-          hold-0 = U .hold-0;
-          idle = U .idle;
-          nobody-waits = silent;
-          nothing-owned = o;
-          outcomes-0 = c;
-          by-id = subst (Ties (levelIn t)) (sym (settled-same (tasks t) (levelOf s) (levelIn t) (s .ready) same (I .ascending)))
-              (ties-change (levelOf s) (levelIn t) (s .ready) (λ y m. sym (same y m)) (U .by-id));
-        })
-      where
-        silent : (i : ℕ) → occ i (t .waiting) ≡ 0
-        silent i = ap (occ i) w ∙ U .nobody-waits i
-
-        same : (i : ℕ) → 1 ≤ occ i (s .ready) → levelIn t i ≡ levelOf s i
-        same = ready-alone t F silent (omega arith) (λ i h. p i)
-
-    task-inv : (p v : ℕ) → p < levels → tasks (s .tables) < maxTasks → Keeps (done (withTables s (addTask (s .tables) p)) (tasks (s .tables) ∷ []) v)
-    unfolding occ
-    task-inv p v low room = finish-inv s (done (withTables s t) (n ∷ []) v) F (I .clock-in) (I .hold-in)
-        (λ i. omega (arith, I .places i, below-suc i n, ap (below i) more)) (λ h. absurd (omega (arith, U .hold-0)))
-        (λ e. record {
-          clock-0 = U .clock-0;
-          hold-0 = U .hold-0;
-          idle = U .idle;
-          nobody-waits = U .nobody-waits;
-          nothing-owned = U .nothing-owned;
-          outcomes-0 = λ i. snoc-default granted (s .tables .outcomes) i ∙ U .outcomes-0 i;
-          by-id = subst (Ties (levelIn t)) (sym order)
-              (ties-insertTail (levelIn t) n (s .ready) (asc-change (levelOf s) (levelIn t) (s .ready) (λ y m. sym (same y m)) (I .ascending)) ready-in
-              (ties-change (levelOf s) (levelIn t) (s .ready) (λ y m. sym (same y m)) (U .by-id)));
-        })
-      where
-        n : ℕ
-        n = tasks (s .tables)
-
-        t : Tables
-        t = addTask (s .tables) p
-
-        F : Facts t
-        F = facts-addTask (s .tables) p low room (I .facts)
-
-        more : tasks t ≡ suc n
-        more = length-snoc (s .tables .priorities) p
-
-        same : (i : ℕ) → 1 ≤ occ i (s .ready) → levelIn t i ≡ levelOf s i
-        same = ready-alone t F (U .nobody-waits) (omega (arith, more)) (λ i h. List·getD-append (s .tables .priorities) (p ∷ []) 0 i h)
-
-        order : settledReady (tasks t) (levelOf s) (levelIn t) (s .ready) (n ∷ []) ≡ insertTail (levelIn t) n (s .ready)
-        order = ap (λ k. settledReady k (levelOf s) (levelIn t) (s .ready) (n ∷ [])) more ∙ settled-made n (levelOf s) (levelIn t) (s .ready) same (I .ascending)
 
   -- after start
   module _ (on : not (s .started) ≡ false) where
@@ -290,7 +216,7 @@ module _ (s : State) (I : Inv s) where
   start-inv off = finish-inv s (done (withStarted s true) [] 0) (I .facts) (I .clock-in) (I .hold-in) (I .places)
       (λ h. absurd (omega (arith, I .in-set-up off .hold-0))) (λ e. absurd (clash refl e))
 
--- the test of the caller who runs
+-- a test of the caller, where r runs
 pub of-caller : (o : Option ℕ) (p : ℕ → Bool) (r : ℕ) → o ≡ some r → ofCaller o p ≡ p r
 unfolding ofCaller
 of-caller o p r e = rw e refl
@@ -307,16 +233,14 @@ module _ (s : State) (I : Inv s) where
       let a = passed _ _ e in
       let b = passed _ _ (a .1) in
       let c = passed _ _ (b .1) in
-      made-inv s I (a .0) (addMutex (s .tables) k) (mutexes (s .tables)) (facts-addMutex (s .tables) k (leb-false kinds k (b .0)) (leb-false maxMutexes (mutexes (s .tables)) (c .0)) (I .facts))
-      refl refl (λ m. snoc-default none (s .tables .owners) m ∙ I .in-set-up (a .0) .nothing-owned m) (I .in-set-up (a .0) .outcomes-0) (λ i. refl)
+      mutex-inv s I (a .0) k _ (leb-false kinds k (b .0)) (leb-false maxMutexes (mutexes (s .tables)) (c .0))
   accept-inv (sem count max) e =
       let a = passed _ _ e in
       let b = passed _ _ (a .1) in
       let c = passed _ _ (b .1) in
       let d = or-none (eqb max 0) (ltb max count) (b .0) in
-      made-inv s I (a .0) (addSem (s .tables) count max) (semaphores (s .tables))
-      (facts-addSem (s .tables) count max (omega (arith, eqb-false max 0 (d .0))) (ltb-false max count (d .1)) (leb-false maxSemaphores (semaphores (s .tables)) (c .0)) (I .facts))
-      refl refl (I .in-set-up (a .0) .nothing-owned) (I .in-set-up (a .0) .outcomes-0) (λ i. refl)
+      sem-inv s I (a .0) count max _ (omega (arith, eqb-false max 0 (d .0))) (ltb-false max count (d .1))
+      (leb-false maxSemaphores (semaphores (s .tables)) (c .0))
   accept-inv start e = start-inv s I (passed _ _ e .0)
   accept-inv (lock m t) e =
       let a = passed _ _ e in
@@ -327,7 +251,7 @@ module _ (s : State) (I : Inv s) where
       let g = passed _ _ (f .1) in
       let h = passed _ _ (g .1) in
       let k = passed _ _ (h .1) in
-      called-by s I (λ y. Inv (finish s y)) (s .running) (λ r. lockBy s m t r (ownerOf (s .tables) m)) (b .0) (λ r run.
+      called-by (λ y. Inv (finish s y)) s (s .running) (λ r. lockBy s m t r (ownerOf (s .tables) m)) (b .0) (λ r run.
       lock-inv s I (a .0) r m t (ownerOf (s .tables) m) run refl (c .0) (not-false (isWaitingTime t) (d .0)) (g .0) (h .0)
       (ap (λ z. taken s m and z) (sym (of-caller (s .running) (λ q. closesRing (s .tables) q m) r run)) ∙ k .0))
   accept-inv (unlock m) e =
@@ -342,7 +266,7 @@ module _ (s : State) (I : Inv s) where
       let d = passed _ _ (c .1) in
       let g = passed _ _ (d .1) in
       let h = passed _ _ (g .1) in
-      called-by s I (λ y. Inv (finish s y)) (s .running) (pendBy s k t) (b .0) (λ r run.
+      called-by (λ y. Inv (finish s y)) s (s .running) (pendBy s k t) (b .0) (λ r run.
       pend-inv s I (a .0) r k t run (c .0) (not-false (isWaitingTime t) (d .0)) (g .0) (h .0))
   accept-inv (post k) e =
       let a = passed _ _ e in
@@ -355,13 +279,13 @@ module _ (s : State) (I : Inv s) where
       let b = passed _ _ (a .1) in
       let c = passed _ _ (b .1) in
       let d = passed _ _ (c .1) in
-      called-by s I (λ y. Inv (finish s y)) (s .running) (λ r. callerWaits s r time t 0) (b .0) (λ r run.
+      called-by (λ y. Inv (finish s y)) s (s .running) (λ r. callerWaits s r time t 0) (b .0) (λ r run.
       wait-inv s I (a .0) r time t 0 run (d .0) tt (left-sleep t (not-false (isSleepTime t) (c .0))) (λ m q. sleep-no-mutex q))
   accept-inv yield e =
       let a = passed _ _ e in
       let b = passed _ _ (a .1) in
       let c = passed _ _ (b .1) in
-      called-by s I (λ y. Inv (finish s y)) (s .running) (yieldBy s) (b .0) (λ r run. yield-inv s I (a .0) r run (c .0))
+      called-by (λ y. Inv (finish s y)) s (s .running) (yieldBy s) (b .0) (λ r run. yield-inv s I (a .0) r run (c .0))
   accept-inv hold e =
       let a = passed _ _ e in
       let b = passed _ _ (a .1) in

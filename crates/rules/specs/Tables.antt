@@ -26,7 +26,7 @@ pub record Tables : Type 0 where
   pub counts : List ℕ
   pub maxima : List ℕ
 
--- one setter for each column: no other text writes the tables out
+-- one setter for each column
 abbrev pub withPriorities : Tables → List ℕ → Tables
 withPriorities t x = record { priorities = x; outcomes = t .outcomes; waits = t .waits; waiting = t .waiting; kinds = t .kinds; owners = t .owners; counts = t .counts; maxima = t .maxima }
 

@@ -11,7 +11,7 @@ use borrow.Author.Tests.{eqb-true, eq-eqb}
 use Rattle.lists.specs.Count.{occ, below}
 use Rattle.lists.specs.Order.{keep, leastFirst}
 use Rattle.lists.specs.TestLaws.{which, clash, none-some, some-same}
-use Rattle.lists.specs.OrderLaws.{occ-kept, occ-dropped, least-some, least-none}
+use Rattle.lists.specs.OrderLaws.{occ-kept, occ-dropped, least-some, least-none, keep-in}
 use Rattle.lists.specs.FirstLaws.{first-is-least}
 use Rattle.chains.specs.Chain.{From, here, on}
 use Rattle.chains.specs.ChainLaws.{from-some}
@@ -41,7 +41,7 @@ unfolding isDue waitCount
 due-waits none e = absurd (clash e refl)
 due-waits (some w) e = refl
 
--- who waits for the mutex m waits for what is m
+-- a wait whose mutex is m is a wait for m
 pub mutex-awaits : (w : Option Wait) (m : ℕ) → mutexAwaited w ≡ some m → waitIsFor w (mutexOf m) ≡ true
 unfolding mutexAwaited waitIsFor mutexIn sameAwaited
 mutex-awaits none m e = none-some refl e
@@ -99,10 +99,7 @@ module _ (t : Tables) (F : Facts t) where
 
     pub in-waiter : (i : ℕ) → 1 ≤ occ i (waitersOf t a) → awaits t a i ≡ true
     unfolding waitersOf
-    in-waiter i h = elim (which (awaits t a i)) [
-      | inl e ↦ e
-      | inr e ↦ absurd (omega (arith, occ-dropped (awaits t a) i (t .waiting) e))
-    ]
+    in-waiter i h = keep-in (awaits t a) i (t .waiting) h .0
 
     -- the best waiter is the oldest of those of least level
     pub best-is-least : bestWaiter t a ≡ leastFirst (levelIn t) (waitersOf t a)

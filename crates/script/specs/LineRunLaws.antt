@@ -14,7 +14,9 @@ use Rattle.decimal.specs.DecimalLaws.{decimal-length}
 use Rattle.text.specs.Place.{room, putAnswer}
 use Rattle.text.specs.declared.place.Put.the-variants.{Next, Full}
 use Rattle.rules.specs.Step.{Step}
-use Rattle.rules.specs.Log.{tab, lf, runField, logLine}
+use Rattle.text.specs.Fields.{tab}
+use Rattle.text.specs.Lines.{lf}
+use Rattle.rules.specs.Log.{runField, logLine}
 use Rattle.walks.specs.Walk.{taskAt}
 use Rattle.rules.specs.Answer.{standing, malformed}
 use Rattle.rules.specs.Sound.{soundb}

@@ -19,8 +19,9 @@ use Rattle.rules.specs.Levels.{mutexIn, mutexAwaited, andThen, heirOf, lends, l
 use Rattle.rules.specs.Step.{level, outcome}
 use Rattle.rules.specs.Effect.{addTask, addMutex, addSem, give, setCount, beginWait, endWaits, due, age, ageAll}
 use Rattle.rules.specs.Invariant.{Facts}
-use Rattle.rules.specs.FactsLaws.{facts-addTask, wait-ended}
+use Rattle.rules.specs.FactsLaws.{wait-ended}
 use Rattle.rules.specs.WaiterLaws.{level-alone}
+use Rattle.rules.specs.CreationLaws.{facts-addTask}
 use Rattle.queues.specs.Queue.{noId, idOf}
 use Rattle.record.specs.Record.{kindCode, objectCode, timedCode, dueCode, packTasks, packMutexes, packSemaphores}
 use Rattle.steps.specs.Machine.{ownerSet, countSet, taskAdded, mutexAdded, semAdded}

@@ -20,9 +20,9 @@ use Rattle.rules.specs.Effect.{done, addTask, addMutex, addSem, yieldBy, effect
 use Rattle.rules.specs.Settle.{settledReady, settle, dispatch}
 use Rattle.rules.specs.Refusal.{refusals}
 use Rattle.rules.specs.Invariant.{Inv}
-use Rattle.rules.specs.FactsLaws.{facts-addMutex, facts-addSem}
 use Rattle.rules.specs.SettleLaws.{settled-made}
 use Rattle.rules.specs.WaiterLaws.{wait-none}
+use Rattle.rules.specs.CreationLaws.{facts-addMutex, facts-addSem}
 use Rattle.rules.specs.StepLaws.{caller-in}
 use Rattle.queues.specs.Queue.{noId, queueOf, keyOf, inserted, idOf}
 use Rattle.queues.specs.QueueLaws.{tail-queueOf}

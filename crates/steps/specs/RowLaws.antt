@@ -24,7 +24,7 @@ use Rattle.record.specs.declared.State.{State}  -- keep
 use Rattle.record.specs.declared.Out.{Out}  -- keep
 use Rattle.rules.specs.State.{State as Model, levelOf}  -- keep
 use Rattle.rules.specs.Step.{Step}  -- keep
-use Rattle.rules.specs.Answer.{decide, accepted, stepSound}  -- keep
+use Rattle.rules.specs.Answer.{decide, answered, stepSound}  -- keep
 
 -- what the rules answer by some rows
 unfoldable pub ruled : Model → Step → List Row → Out
@@ -41,7 +41,7 @@ unfolding ruled firstRow decide outFor answerFor pack
 on-row s x {o} r rs n out further = by-test (λ (z : Option Row). o ≡ outFor (decide s x z)) (r .when) (λ e. out e ∙ rw n refl) further
 
 -- the accepted step
-accept-pack : (s : Model) (n v : ℕ) → leb n 1 ≡ true → accept (pack s) n v ≡ outFor (accepted s n v)
+accept-pack : (s : Model) (n v : ℕ) → leb n 1 ≡ true → accept (pack s) n v ≡ outFor (answered s n v)
 unfolding outFor answerFor pack
 accept-pack s n v e = rw e refl
 
@@ -49,7 +49,7 @@ pub on-accept : (s : Model) (x : Step) (E : Effect) (k : State) → effect s x �
     → accept k (E .number) (E .value) ≡ ruled s x []
 unfolding ruled firstRow decide finish
 on-accept s x E k e n q = ap (λ z. accept z (E .number) (E .value)) q ∙ accept-pack (finish s E) (E .number) (E .value) n
-    ∙ ap (λ z. outFor (accepted (finish s z) (z .number) (z .value))) (sym e)
+    ∙ ap (λ z. outFor (answered (finish s z) (z .number) (z .value))) (sym e)
 
 -- tests of the record and of the state
 started-code : (b : Bool) → eqb (cond b 1 0) 0 ≡ not b

@@ -5,7 +5,9 @@ use Prim.Native.Nat.{ℕ, _+_}
 use lib.ListN.{length}
 use Rattle.decimal.specs.Decimal.{decimal}
 use Rattle.text.specs.Place.{room}
-use Rattle.rules.specs.Log.{tab, lf, runField}
+use Rattle.text.specs.Fields.{tab}
+use Rattle.text.specs.Lines.{lf}
+use Rattle.rules.specs.Log.{runField}
 use Rattle.walks.specs.Walk.{taskAt}
 use Rattle.syntax.specs.Ascii.{ascii}
 

@@ -11,7 +11,9 @@ use Rattle.lists.specs.TestLaws.{which}
 use Rattle.decimal.specs.Decimal.{maxDigits, decimal}
 use Rattle.decimal.specs.DecimalLaws.{decimal-length}
 use Rattle.rules.specs.Sizes.{maxTasks}
-use Rattle.rules.specs.Log.{tab, lf, dash, runField}
+use Rattle.text.specs.Fields.{tab}
+use Rattle.text.specs.Lines.{lf}
+use Rattle.rules.specs.Log.{dash, runField}
 use Rattle.walks.specs.Walk.{taskAt}
 use Rattle.syntax.specs.LogLine.{lineBytes}
 use Rattle.syntax.specs.PutLaws.{whole}

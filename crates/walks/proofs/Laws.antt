@@ -158,7 +158,7 @@ pub raised-step : (own next l m : List ℕ) (n j : ℕ) → l ≡ raised own nex
 unfolding raised
 raised-step own next l m n j e f = rw (add-one, ← e) f
 
--- no task ends below its own priority
+-- no level is less urgent than the own priority
 raised-le : (own next : List ℕ) (n j i : ℕ) → getD (raised own next n j) i 0 ≤ getD own i 0
 unfolding raised
 raised-le own next n zero i = omega arith

@@ -8,16 +8,11 @@ use lib.ListN.{getD, set}
 use Rattle.chains.specs.Chain.{walk}
 use Rattle.rules.specs.Sizes.{maxTasks}
 
--- what stands for no task
-abbrev pub noId : ℕ
-noId = 255
-
 -- an id's task; a number that no task can have stands for none
 abbrev pub taskAt : ℕ → Option ℕ
 taskAt x = cond (ltb x maxTasks) (some x) none
 
 -- the task after i, by a table of ids; a number that no task can have leads nowhere
--- (in a table of maxTasks ids it is the task of the id at i, or of noId where there is none: WalkLaws, next-is)
 abbrev pub nextIn : List ℕ → ℕ → Option ℕ
 nextIn next i = cond (ltb i maxTasks) (taskAt (getD next i 0)) none
 

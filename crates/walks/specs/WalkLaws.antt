@@ -15,7 +15,7 @@ use Rattle.lists.specs.CountLaws.{eqn-at, eqn-other}
 use Rattle.chains.specs.Chain.{walk, endsb}
 use Rattle.chains.specs.Least.{least, leadsTo, leastLeading}
 use Rattle.rules.specs.Sizes.{maxTasks}
-use Rattle.walks.specs.Walk.{noId, taskAt, nextIn, lifted, raised}
+use Rattle.walks.specs.Walk.{taskAt, nextIn, lifted, raised}
 
 -- what stands at a place of a table, whatever stands for no place
 pub other-default : (l : List ℕ) (i a b : ℕ) → i < length l → getD l i a ≡ getD l i b
@@ -39,13 +39,6 @@ module _ (next : List ℕ) (i : ℕ) where
   pub next-out : maxTasks ≤ i → nextIn next i ≡ none
   next-out h = rw (le-ltb i maxTasks h) refl
 
-  -- whatever stands for a place that the table lacks
-  pub next-is : length next ≡ maxTasks → nextIn next i ≡ taskAt (getD next i noId)
-  next-is e = elim (decLt i maxTasks) [
-    | yes h ↦ next-in h ∙ ap taskAt (other-default next i 0 noId (omega arith))
-    | no h ↦ (let b : length next ≤ i = omega arith in next-out (omega arith) ∙ sym (rw (List·getD-eq-default next noId b) refl))
-  ]
-
 -- a table and a map that agree on the first n tasks, and lead nowhere from the others
 pub next-agrees : (next : List ℕ) (f : ℕ → Option ℕ) (n : ℕ) → ((i : ℕ) → i < n → nextIn next i ≡ f i)
     → ((i : ℕ) → n ≤ i → nextIn next i ≡ none) → ((i : ℕ) → n ≤ i → f i ≡ none) → (i : ℕ) → nextIn next i ≡ f i
@@ -62,7 +55,7 @@ module _ (f g : ℕ → Option ℕ) (same : (i : ℕ) → f i ≡ g i) where
   pub leading-ext : (n : ℕ) (own : ℕ → ℕ) (i : ℕ) → leastLeading n f own i ≡ leastLeading n g own i
   leading-ext n own i = ap (λ (h : ℕ → Option ℕ). leastLeading n h own i) (fun-ext same)
 
--- values that agree below n, and at d, have one least
+-- values that agree below n have one least
 pub least-ext : (n : ℕ) (p : ℕ → Bool) (f g : ℕ → ℕ) (d : ℕ) → ((j : ℕ) → j < n → f j ≡ g j) → least n p f d ≡ least n p g d
 unfolding least
 least-ext zero p f g d h = refl

@@ -1,4 +1,4 @@
-// Walks from waiter to owner: `next` holds, for each task, the id of the task it leads to, or NONE.
+// Walks from waiter to owner: `next` holds, for each task, the id of the task it leads to; a number that no task can have leads nowhere.
 ghost use mathlib.Core.Path.{_≡_};
 ghost use Prim.Native.Nat.{min};
 ghost use lib.ListN.{length, getD};
@@ -16,7 +16,7 @@ pub const TASKS: usize = 16;
 // The same, as ids count.
 const MAX_TASKS: u8 = TASKS as u8;
 
-// Each task on the chain from `at` raised to `p`; the fuel, tasks not yet seen, falls at each call.
+// Each task on the chain from `at` raised to `p`, where that is more urgent; the fuel, tasks not yet seen, falls at each call.
 pub fn lift(levels: [u8; TASKS], next: &[u8; TASKS], at: u8, p: u8, fuel: u8) -> [u8; TASKS]
     ensures { λ r. ⌜ r ≡ lifted levels p (chainFrom (now (next .entry)) at fuel) ⌝ }
 {
@@ -45,7 +45,7 @@ pub fn levels_of(own: [u8; TASKS], next: &[u8; TASKS], n: u8) -> [u8; TASKS]
         if TASKS <= i {
             return l;
         }
-        // A task that leads nowhere lifts only itself, to where it starts.
+        // A task that leads nowhere lifts only itself, and stands there already.
         let to = next[i];
         if to < MAX_TASKS {
             let m = lift(l, next, j, own[i], n);
@@ -86,7 +86,7 @@ pub fn follow(next: &[u8; TASKS], at: u8, caller: u8, fuel: u8) -> Found
     f
 }
 
-// Does the chain from `at` end within the fuel?
+// Whether the chain from `at` ends within the fuel.
 pub fn ends(next: &[u8; TASKS], at: u8, fuel: u8) -> bool
     ensures { λ r. ⌜ r ≡ endsb fuel (nextIn (now (next .entry))) (taskAt at) ⌝ }
 {
@@ -100,7 +100,7 @@ pub fn ends(next: &[u8; TASKS], at: u8, fuel: u8) -> bool
     ends(next, next[i], fuel - 1)
 }
 
-// Does the chain of each of the first `n` tasks end?
+// Whether the chain of each of the first `n` tasks ends.
 pub fn all_end(next: &[u8; TASKS], n: u8) -> bool
     ensures { λ r. ⌜ r ≡ allb (min n maxTasks) (λ i. endsb n (nextIn (now (next .entry))) (nextIn (now (next .entry)) i)) ⌝ }
 {
@@ -118,7 +118,7 @@ pub fn all_end(next: &[u8; TASKS], n: u8) -> bool
     true
 }
 
-// Do two tables agree on the first `n` tasks?
+// Whether two tables agree on the first `n` tasks.
 pub fn agree(a: [u8; TASKS], b: [u8; TASKS], n: u8) -> bool
     ensures { λ r. ⌜ r ≡ allb (min n maxTasks) (λ i. eqb (getD a i 0) (getD b i 0)) ⌝ }
 {

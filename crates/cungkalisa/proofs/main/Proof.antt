@@ -11,47 +11,36 @@ Inv-loop carry₀ piece₀ log₀ s₀ turns₀ carry piece log s turns = (lengt
 abbrev μ-loop : tie.MeasureT-loop
 μ-loop carry₀ piece₀ log₀ s₀ turns₀ carry piece log s turns = turns
 
--- src/main.rt:76:9
 begin-requires : tie.Need-begin-requires Inv-loop μ-loop
 begin-requires c κs = search needs
 
--- src/main.rt:78:5
 loop-holds : tie.Need-loop-holds Inv-loop μ-loop
 loop-holds c = search needs
 
--- src/main.rt:79:29
 slice-aggregate-one-turn : tie.Need-slice-aggregate-one-turn Inv-loop μ-loop
 slice-aggregate-one-turn c = search needs
 
--- src/main.rt:79:41
 slice-aggregate-one-turn-2 : tie.Need-slice-aggregate-one-turn-2 Inv-loop μ-loop
 slice-aggregate-one-turn-2 c = search needs
 
--- src/main.rt:79:53
 slice-aggregate-one-turn-3 : tie.Need-slice-aggregate-one-turn-3 Inv-loop μ-loop
 slice-aggregate-one-turn-3 c = search needs
 
--- src/main.rt:79:13
 one-turn-requires : tie.Need-one-turn-requires Inv-loop μ-loop
 one-turn-requires c κs = search needs
 
--- src/main.rt:81:13
 returns : tie.Need-returns Inv-loop μ-loop
 returns c = search needs
 
--- src/main.rt:84:9
 sub-turns : tie.Need-sub-turns Inv-loop μ-loop
 sub-turns c = search needs
 
--- src/main.rt:78:5
 loop-less : tie.Need-loop-less Inv-loop μ-loop
 loop-less c = search needs
 
--- src/main.rt:78:5
 loop-again : tie.Need-loop-again Inv-loop μ-loop
 loop-again c = search needs
 
--- src/main.rt:72:1
 returns-2 : tie.Need-returns-2 Inv-loop μ-loop
 returns-2 c = search needs
 

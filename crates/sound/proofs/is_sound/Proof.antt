@@ -1,3 +1,4 @@
+-- `is_sound`: what the phrases answer is the definition, for a record whose types tell what they do.
 use mathlib.Core.Path.{_∙_}
 use Rattle.record.specs.GoodRecord.{Typed}
 use Rattle.sound.specs.CheckLaws.{checks-sound}

@@ -1,3 +1,4 @@
+-- `perform`: each request is its step.
 use Rattle.steps.specs.MachineLaws.{machineStep}
 use borrow.Author.Needs.{needs}
 use Rattle.steps.proofs.perform.Statement.{statement}

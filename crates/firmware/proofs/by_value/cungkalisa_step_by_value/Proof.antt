@@ -1,3 +1,4 @@
+-- `cungkalisa_step_by_value`: the record and the packed answer of what `made` gives.
 use mathlib.Core.Path.{subst, ap, _∙_}
 use borrow.Author.Needs.{needs}
 use Rattle.record.specs.declared.Out.{Out}
@@ -5,19 +6,15 @@ use Rattle.firmware.specs.Packed.{Carries}
 use Rattle.firmware.proofs.by_value.cungkalisa_step_by_value.Statement.{statement}
 use Rattle.firmware.proofs.by_value.cungkalisa_step_by_value.Tie as tie
 
--- src/by_value.rt:37:9
 made-requires : tie.Need-made-requires
 made-requires c κs = search needs
 
--- src/by_value.rt:38:9
 state-of-requires : tie.Need-state-of-requires
 state-of-requires c κs = search needs
 
--- src/by_value.rt:39:9
 code-of-requires : tie.Need-code-of-requires
 code-of-requires c κs = search needs
 
--- src/by_value.rt:33:1
 returns : tie.Need-returns
 returns c = (
   subst (λ (p : Out). Carries (c .code-of .result) (p .answer)) (c .before .before .made .ensures) (c .code-of .ensures),

@@ -1,18 +1,16 @@
+-- `made`: what the code asks for, called.
 use mathlib.Core.Path.{ap, _∙_}
 use Rattle.firmware.specs.Call.{callOf}
 use borrow.Author.Needs.{needs}
 use Rattle.firmware.proofs.by_value.made.Statement.{statement}
 use Rattle.firmware.proofs.by_value.made.Tie as tie
 
--- src/by_value.rt:15:20
 request-of-requires : tie.Need-request-of-requires
 request-of-requires c κs = search needs
 
--- src/by_value.rt:15:5
 call-requires : tie.Need-call-requires
 call-requires c κs = search needs
 
--- src/by_value.rt:12:1
 returns : tie.Need-returns
 returns c = c .call .ensures ∙ ap (callOf (c .before .before .args .s)) (c .before .request-of .ensures)
 

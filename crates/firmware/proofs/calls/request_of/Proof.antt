@@ -1,3 +1,4 @@
+-- `request_of`: each code in turn, and a code past all of them.
 use mathlib.Core.Path.{refl, sym}
 use native.Mathlib.Omega.{arith}
 use Rattle.firmware.specs.Call.{requestOf}

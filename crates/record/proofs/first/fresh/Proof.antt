@@ -1,3 +1,4 @@
+-- `fresh`: the packed fresh state, computed.
 use mathlib.Core.Path.{refl}
 use Rattle.lists.specs.Table.{pad, filled}
 use Rattle.queues.specs.Queue.{queueOf, idOf}

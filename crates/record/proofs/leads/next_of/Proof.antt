@@ -11,10 +11,10 @@ use Rattle.record.proofs.leads.next_of.Statement.{statement}
 use Rattle.record.proofs.leads.next_of.Tie as tie
 
 abbrev Inv-loop : tie.InvT-loop
-Inv-loop t m a₀ i₀ a i = (i ≤ 16) × (a ≡ soFar maxTasks (nextAt t m) noId i)
+Inv-loop t m a₀ i₀ a i = (i ≤ maxTasks) × (a ≡ soFar maxTasks (nextAt t m) noId i)
 
 abbrev μ-loop : tie.MeasureT-loop
-μ-loop t m a₀ i₀ a i = 16 - i
+μ-loop t m a₀ i₀ a i = maxTasks - i
 
 loop-holds : tie.Need-loop-holds Inv-loop μ-loop
 loop-holds c = let a = c .args in (search needs, fill-none maxTasks (nextAt (a .t) (a .m)) noId)

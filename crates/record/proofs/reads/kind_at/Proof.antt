@@ -3,11 +3,12 @@ use borrow.Author.Needs.{needs}
 use mathlib.Core.Path.{_≡_, sym}
 use native.Mathlib.Omega.{arith}
 use lib.ListN.{List·getD-eq-default, length}
+use Rattle.rules.specs.Sizes.{maxMutexes}
 use Rattle.record.proofs.reads.kind_at.Statement.{statement}
 use Rattle.record.proofs.reads.kind_at.Tie as tie
 
 returns : tie.Need-returns
-returns c = let a = c .before .args in let g : length (a .t1 .kind) ≡ 8 = search needs in sym (List·getD-eq-default (a .t1 .kind) 0 (omega arith))
+returns c = let a = c .before .args in let g : length (a .t1 .kind) ≡ maxMutexes = search needs in sym (List·getD-eq-default (a .t1 .kind) 0 (omega arith))
 
 element-copy-out-result : tie.Need-element-copy-out-result
 element-copy-out-result c = search needs

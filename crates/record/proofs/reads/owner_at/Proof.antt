@@ -5,17 +5,18 @@ use native.Mathlib.Omega.{arith}
 use lib.ListN.{List·getD-eq-default, length}
 use Rattle.queues.specs.Queue.{noId}
 use Rattle.lists.specs.FillLaws.{read-any}
+use Rattle.rules.specs.Sizes.{maxMutexes}
 use Rattle.record.proofs.reads.owner_at.Statement.{statement}
 use Rattle.record.proofs.reads.owner_at.Tie as tie
 
 returns : tie.Need-returns
-returns c = let a = c .before .args in let g : length (a .t1 .owner) ≡ 8 = search needs in sym (List·getD-eq-default (a .t1 .owner) noId (omega arith))
+returns c = let a = c .before .args in let g : length (a .t1 .owner) ≡ maxMutexes = search needs in sym (List·getD-eq-default (a .t1 .owner) noId (omega arith))
 
 element-copy-out-result : tie.Need-element-copy-out-result
 element-copy-out-result c = search needs
 
 returns-2 : tie.Need-returns-2
-returns-2 c = let a = c .before .before .args in let g : length (a .t1 .owner) ≡ 8 = search needs in read-any (a .t1 .owner) _ 0 noId (omega arith)
+returns-2 c = let a = c .before .before .args in let g : length (a .t1 .owner) ≡ maxMutexes = search needs in read-any (a .t1 .owner) _ 0 noId (omega arith)
 
 pub owner-at-spec : {M : Type 1} → statement M
 owner-at-spec = tie.close (tie.spec returns element-copy-out-result returns-2)

@@ -5,19 +5,15 @@ use borrow.Author.Needs.{needs}
 use Rattle.script.proofs.lent.run_at.Statement.{statement}
 use Rattle.script.proofs.lent.run_at.Tie as tie
 
--- src/lent.rt:14:9
 line-at-requires : tie.Need-line-at-requires
 line-at-requires c κs = search needs
 
--- src/lent.rt:15:5
 run-line-requires : tie.Need-run-line-requires
 run-line-requires c κs = search needs
 
--- src/lent.rt:10:1
 same-length : tie.Need-same-length
 same-length c = search needs
 
--- src/lent.rt:10:1
 returns : tie.Need-returns
 returns c =
     let a = c .before .before .before .before .before .before .before .args in

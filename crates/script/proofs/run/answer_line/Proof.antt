@@ -1,3 +1,4 @@
+-- `answer_line`: a line that is a step is answered by the kernel, any other 14.
 use borrow.Author.Needs.{needs}
 -- `answer_line`: the step that was read, or 14.
 use mathlib.Core.Path.{sym, _∙_}

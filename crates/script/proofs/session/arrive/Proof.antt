@@ -24,23 +24,18 @@ Inv-loop carry₀ bytes log₀ s₀ stage₀ held₀ at₀ written₀ carry log 
 abbrev μ-loop : tie.MeasureT-loop
 μ-loop carry₀ bytes log₀ s₀ stage₀ held₀ at₀ written₀ carry log s stage held at written = length bytes - at
 
--- src/session.rt:131:5
 loop-holds : tie.Need-loop-holds Inv-loop μ-loop
 loop-holds c = (search needs, refl, refl, refl)
 
--- src/session.rt:132:61
 sub-next-line : tie.Need-sub-next-line Inv-loop μ-loop
 sub-next-line c = search needs
 
--- src/session.rt:132:61
 part-next-line-start : tie.Need-part-next-line-start Inv-loop μ-loop
 part-next-line-start c = search needs
 
--- src/session.rt:132:61
 part-next-line-end : tie.Need-part-next-line-end Inv-loop μ-loop
 part-next-line-end c = search needs
 
--- src/session.rt:132:13
 next-line-requires : tie.Need-next-line-requires Inv-loop μ-loop
 next-line-requires c κs = search needs
 
@@ -60,20 +55,17 @@ turn-is c =
     c .before .before .before .before .before .before .next-line .ensures .0
     ∙ ap (turned (l .s) (l .stage) (fed (l .carry) (l .held) bytes (l .at)) (carryAfter (l .carry) (l .held) bytes (l .at)) bytes) (rest-part (l .log) (l .written))
 
--- src/session.rt:137:19
 add-written : tie.Need-add-written Inv-loop μ-loop
 add-written c =
     let l = c .before .before .before .before .before .before .before .before .before .before .loop in
     let short = turn-short (c .before .before .before .before .before .before .before .before .before .before .before .before .before .before .before .args .bytes .now) (l .at) (before-turn c) (l .carry) (l .held) (c .before .before .before .before .before .before .before .before .before .loop-test .taken) (c .before .before .before .before .before .before .next-line .result) (turn-is c) (l .inv .0) in
     omega (arith, short, l .inv .1, c .before .before .before .before .before .before .before .before .before .before .before .before .before .before .before .good .1 .1 .1 .0 .0)
 
--- src/session.rt:131:5
 loop-less : tie.Need-loop-less Inv-loop μ-loop
 loop-less c =
     let l = c .before .before .before .before .before .before .before .before .before .before .loop in
     omega (arith, turn-on (c .before .before .before .before .before .before .before .before .before .before .before .before .before .before .before .args .bytes .now) (l .at) (before-turn c) (l .carry) (l .held) (c .before .before .before .before .before .before .before .before .before .loop-test .taken) (c .before .before .before .before .before .before .next-line .result) (turn-is c), c .before .before .before .before .before .before .before .before .before .loop-test .taken)
 
--- src/session.rt:131:5
 loop-again : tie.Need-loop-again Inv-loop μ-loop
 loop-again c =
     let l = c .before .before .before .before .before .before .before .before .before .before .loop in
@@ -91,15 +83,12 @@ loop-again c =
           ∙ l .inv .3,
     )
 
--- src/session.rt:121:1
 same-length : tie.Need-same-length Inv-loop μ-loop
 same-length c = search needs
 
--- src/session.rt:121:1
 same-length-2 : tie.Need-same-length-2 Inv-loop μ-loop
 same-length-2 c = search needs
 
--- src/session.rt:121:1
 returns : tie.Need-returns Inv-loop μ-loop
 unfolding pieceRun
 returns c =

@@ -4,11 +4,9 @@ use borrow.Author.Needs.{needs}
 use Rattle.script.proofs.session.begin.Statement.{statement}
 use Rattle.script.proofs.session.begin.Tie as tie
 
--- src/session.rt:112:9
 fresh-requires : tie.Need-fresh-requires
 fresh-requires c κs = search needs
 
--- src/session.rt:109:1
 returns : tie.Need-returns
 unfolding freshSession
 returns c = λ i. record { state = c .fresh .ensures i; stage = 0; held = 0 }

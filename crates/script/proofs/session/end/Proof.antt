@@ -6,15 +6,12 @@ use borrow.Author.Needs.{needs}
 use Rattle.script.proofs.session.end.Statement.{statement}
 use Rattle.script.proofs.session.end.Tie as tie
 
--- src/session.rt:175:9
 take-last-requires : tie.Need-take-last-requires
 take-last-requires c κs = search needs
 
--- src/session.rt:170:1
 same-length : tie.Need-same-length
 same-length c = search needs
 
--- src/session.rt:170:1
 returns : tie.Need-returns
 returns c =
     let a = c .before .before .before .before .before .before .before .before .args in

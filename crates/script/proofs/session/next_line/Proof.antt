@@ -4,23 +4,18 @@ use borrow.Author.Needs.{needs}
 use Rattle.script.proofs.session.next_line.Statement.{statement}
 use Rattle.script.proofs.session.next_line.Tie as tie
 
--- src/session.rt:95:9
 feed-requires : tie.Need-feed-requires
 feed-requires c κs = search needs
 
--- src/session.rt:97:9
 take-found-requires : tie.Need-take-found-requires
 take-found-requires c κs = search needs
 
--- src/session.rt:90:1
 same-length : tie.Need-same-length
 same-length c = search needs
 
--- src/session.rt:90:1
 same-length-2 : tie.Need-same-length-2
 same-length-2 c = search needs
 
--- src/session.rt:90:1
 returns : tie.Need-returns
 returns c =
     let a = c .before .before .before .before .before .before .before .before .before .before .before .before .before .args in

@@ -6,15 +6,12 @@ use borrow.Author.Needs.{needs}
 use Rattle.script.proofs.session.take.Statement.{statement}
 use Rattle.script.proofs.session.take.Tie as tie
 
--- src/session.rt:48:13
 run-line-requires : tie.Need-run-line-requires
 run-line-requires c κs = search needs
 
--- src/session.rt:50:9
 same-length : tie.Need-same-length
 same-length c = search needs
 
--- src/session.rt:50:9
 returns : tie.Need-returns
 unfolding taken takenMemory
 returns c =
@@ -22,15 +19,12 @@ returns c =
     let e = eq-eqb _ _ (c .before .before .before .before .before .if1 .taken) in
     (rw e (λ i. record { state = r .ensures .0 i .state; stage = c .before .before .before .before .before .before .before .before .args .stage; written = r .ensures .0 i .written }), rw e (r .ensures .1))
 
--- src/session.rt:57:13
 run-header-requires : tie.Need-run-header-requires
 run-header-requires c κs = search needs
 
--- src/session.rt:58:9
 same-length-2 : tie.Need-same-length-2
 same-length-2 c = search needs
 
--- src/session.rt:58:9
 returns-2 : tie.Need-returns-2
 unfolding taken takenMemory
 returns-2 c =
@@ -39,7 +33,6 @@ returns-2 c =
     let d = ne-eqb _ _ (c .before .before .before .before .before .if1 .left) in
     (rw (d, e) (λ i. record { state = c .before .before .before .before .before .before .before .before .args .s; stage = h .ensures .0 i .stage; written = h .ensures .0 i .written }), rw (d, e) (h .ensures .1))
 
--- src/session.rt:43:1
 returns-3 : tie.Need-returns-3
 unfolding taken takenMemory
 returns-3 c =

@@ -8,45 +8,36 @@ use borrow.Author.Needs.{needs}
 use Rattle.script.proofs.session.take_last.Statement.{statement}
 use Rattle.script.proofs.session.take_last.Tie as tie
 
--- src/session.rt:154:9
 slice-aggregate-none : tie.Need-slice-aggregate-none
 slice-aggregate-none c = search needs
 
--- src/session.rt:157:13
 take-requires : tie.Need-take-requires
 take-requires c κs = search needs
 
--- src/session.rt:157:13
 same-length : tie.Need-same-length
 same-length c = search needs
 
--- src/session.rt:157:13
 returns : tie.Need-returns
 unfolding foundTaken foundMemory lineIn
 returns c =
     let a = c .before .before .before .before .before .before .before .before .before .args in
     rw (left-none (a .stage) (a .carry .now) (a .held) (c .before .before .before .before .before .if1 .taken) (c .before .before .before .before .if2 .taken)) (c .before .before .take .ensures)
 
--- src/session.rt:159:9
 returns-2 : tie.Need-returns-2
 unfolding foundTaken foundMemory
 returns-2 c =
     let a = c .before .before .before .before .before .args in
     rw (left-over (a .stage) (a .carry .now) (a .held) (c .before .if1 .taken) (c .if2 .left)) (refl, refl)
 
--- src/session.rt:165:9
 finish-requires : tie.Need-finish-requires
 finish-requires c κs = search needs
 
--- src/session.rt:166:5
 take-found-requires : tie.Need-take-found-requires
 take-found-requires c κs = search needs
 
--- src/session.rt:150:1
 same-length-2 : tie.Need-same-length-2
 same-length-2 c = search needs
 
--- src/session.rt:150:1
 returns-3 : tie.Need-returns-3
 returns-3 c =
     let a = c .before .before .before .before .before .before .before .before .before .args in

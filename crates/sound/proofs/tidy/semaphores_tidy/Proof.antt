@@ -8,15 +8,16 @@ use borrow.Author.Tests.{le-leb, lt-leb}
 use Rattle.lists.specs.Test.{allb, _and_}
 use Rattle.walks.proofs.Laws.{all-none, all-step, all-done, all-fails}
 use Rattle.record.specs.SoundRecord.{semPlaceb, semaphoresTidyb}
+use Rattle.rules.specs.Sizes.{maxSemaphores}
 use Rattle.sound.proofs.SoundCode.{passed, failed}
 use Rattle.sound.proofs.tidy.semaphores_tidy.Statement.{statement}
 use Rattle.sound.proofs.tidy.semaphores_tidy.Tie as tie
 
 abbrev Inv-loop : tie.InvT-loop
-Inv-loop c j₀ j = (j ≤ 8) × (true ≡ allb j (semPlaceb c))
+Inv-loop c j₀ j = (j ≤ maxSemaphores) × (true ≡ allb j (semPlaceb c))
 
 abbrev μ-loop : tie.MeasureT-loop
-μ-loop c j₀ j = 8 - j
+μ-loop c j₀ j = maxSemaphores - j
 
 returns : tie.Need-returns Inv-loop μ-loop
 unfolding semaphoresTidyb _and_
@@ -30,7 +31,7 @@ semaphore-place-requires c κs = search needs
 
 returns-2 : tie.Need-returns-2 Inv-loop μ-loop
 unfolding semaphoresTidyb _and_
-returns-2 c = rw (le-leb _ _ (c .before .before .before .before .if1 .left)) (all-fails (semPlaceb (c .before .before .before .before .before .before .args .c)) (c .before .before .before .loop .j) 8 (omega arith) (sym (failed (c .before .semaphore-place .ensures) (c .if2 .taken))))
+returns-2 c = rw (le-leb _ _ (c .before .before .before .before .if1 .left)) (all-fails (semPlaceb (c .before .before .before .before .before .before .args .c)) (c .before .before .before .loop .j) maxSemaphores (omega arith) (sym (failed (c .before .semaphore-place .ensures) (c .if2 .taken))))
 
 add-j : tie.Need-add-j Inv-loop μ-loop
 add-j c = search needs
@@ -43,7 +44,7 @@ loop-again c = (search needs, all-step (semPlaceb (c .before .before .before .be
 
 returns-3 : tie.Need-returns-3 Inv-loop μ-loop
 unfolding semaphoresTidyb _and_
-returns-3 c = rw (le-leb _ _ (c .before .before .if1 .left)) (all-done (semPlaceb (c .before .before .before .before .args .c)) (c .before .loop .j) 8 (omega arith) (c .before .loop .inv .1))
+returns-3 c = rw (le-leb _ _ (c .before .before .if1 .left)) (all-done (semPlaceb (c .before .before .before .before .args .c)) (c .before .loop .j) maxSemaphores (omega arith) (c .before .loop .inv .1))
 
 pub semaphores-tidy-spec : {M : Type 1} → statement M
 semaphores-tidy-spec =

@@ -10,10 +10,10 @@ use Rattle.steps.proofs.tables.due_flags.Statement.{statement}
 use Rattle.steps.proofs.tables.due_flags.Tie as tie
 
 abbrev Inv-loop : tie.InvT-loop
-Inv-loop t clock f₀ i₀ f i = (i ≤ 16) × (f ≡ soFar maxTasks (dueFlag t clock) 0 i)
+Inv-loop t clock f₀ i₀ f i = (i ≤ maxTasks) × (f ≡ soFar maxTasks (dueFlag t clock) 0 i)
 
 abbrev μ-loop : tie.MeasureT-loop
-μ-loop t clock f₀ i₀ f i = 16 - i
+μ-loop t clock f₀ i₀ f i = maxTasks - i
 
 loop-holds : tie.Need-loop-holds Inv-loop μ-loop
 loop-holds c = let a = c .args in (search needs, fill-none maxTasks (dueFlag (a .t) (a .clock)) 0)

@@ -10,10 +10,10 @@ use Rattle.steps.proofs.tables.waiter_flags.Statement.{statement}
 use Rattle.steps.proofs.tables.waiter_flags.Tie as tie
 
 abbrev Inv-loop : tie.InvT-loop
-Inv-loop t kind object f₀ i₀ f i = (i ≤ 16) × (f ≡ soFar maxTasks (waiterFlag t kind object) 0 i)
+Inv-loop t kind object f₀ i₀ f i = (i ≤ maxTasks) × (f ≡ soFar maxTasks (waiterFlag t kind object) 0 i)
 
 abbrev μ-loop : tie.MeasureT-loop
-μ-loop t kind object f₀ i₀ f i = 16 - i
+μ-loop t kind object f₀ i₀ f i = maxTasks - i
 
 loop-holds : tie.Need-loop-holds Inv-loop μ-loop
 loop-holds c = let a = c .args in (search needs, fill-none maxTasks (waiterFlag (a .t) (a .kind) (a .object)) 0)
