@@ -1,7 +1,8 @@
 //! Random calls, damages and clocks.
 
 use compare::{Bytes, Call};
-use outside::kernel::{Object, Record, State, Step, Wait, FOREVER};
+use outside::kernel::{Object, State, Step, Wait, FOREVER};
+use outside::record::Record;
 use outside::random::{self, Random};
 
 /// Numbers at which something changes.

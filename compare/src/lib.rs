@@ -1,6 +1,7 @@
 //! The proved library as Rust calls it, and steps as it takes them.
 
-use outside::kernel::{Record, Step};
+use outside::kernel::Step;
+use outside::record::Record;
 
 mod linked {
     use super::{Bytes, Stepped};

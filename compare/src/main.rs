@@ -9,7 +9,8 @@ mod choose;
 
 use choose::{call, damage, set_clock, Way};
 use compare::{parts, Bytes, Call};
-use outside::kernel::{self, from_record, is_sound, Record, State, NONE};
+use outside::kernel::State;
+use outside::record::{self, from_record, is_sound, Record, NONE};
 use outside::random::Random;
 use std::mem::offset_of;
 use std::process::ExitCode;
@@ -80,7 +81,7 @@ fn run(seed: u64, seen: &mut Seen) -> Result<(), String> {
     let mut bytes = Bytes([0; 292]);
     bytes.0.fill_with(|| random.next() as u8);
     bytes.fresh();
-    if bytes.record() != kernel::fresh() {
+    if bytes.record() != record::fresh() {
         return Err(format!("the fresh record is {:?}", bytes.record()));
     }
     let mut state = State::default();
@@ -109,7 +110,7 @@ fn expected(r: &Record, sound: bool, call: Call) -> (Record, u8, u32, u8) {
         // As a line that is no step: the running task as it stands, none where the record isn't sound.
         return (r.clone(), 14, 0, if sound { r.running } else { NONE });
     };
-    let (next, answer) = kernel::step(r, s);
+    let (next, answer) = record::step(r, s);
     (next, answer.number as u8, answer.value, answer.run.map_or(NONE, |i| i as u8))
 }
 

@@ -4,4 +4,5 @@
 
 pub mod kernel;
 pub mod random;
+pub mod record;
 pub mod script;

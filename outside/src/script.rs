@@ -1,6 +1,7 @@
 //! The script reader and the log writer.
 
-use crate::kernel::{from_record, is_sound, step, Answer, Record, State, Step};
+use crate::kernel::{Answer, State, Step};
+use crate::record::{from_record, is_sound, step, Record};
 use std::io::{self, Read, Write};
 
 /// "Lines over 80 bytes without the LF ... are answered 14."

@@ -1,6 +1,7 @@
 //! Records: their layout, what is sound, and steps on them along random runs.
 
 use outside::kernel::*;
+use outside::record::*;
 use outside::random::{self, Random};
 use outside::script::{self, line_on_record, line_on_state, log_line};
 use std::mem::{offset_of, size_of};

@@ -28,7 +28,7 @@ use Rattle.script.specs.declared.run.Headed.{Headed}
 use Rattle.script.specs.declared.session.Taken.{Taken}
 use Rattle.script.specs.declared.session.Turn.{Turn}
 
--- was no line's end found?
+-- no line's end was found
 unfoldable pub nothingb : Found → Bool
 nothingb (found.Part start end) = false
 nothingb (found.Carried n) = false

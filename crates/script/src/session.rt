@@ -22,19 +22,19 @@ pub struct Moved {
 }
 
 // What one line came to: the record, where the script stands, and how many bytes of log were written.
-pub struct Taken {
-    pub state: State,
-    pub stage: u8,
-    pub written: usize,
+struct Taken {
+    state: State,
+    stage: u8,
+    written: usize,
 }
 
 // What the bytes up to a line's end came to: as for a line, and how many bytes the carry holds and where the next line begins.
-pub struct Turn {
-    pub state: State,
-    pub stage: u8,
-    pub held: usize,
-    pub next: usize,
-    pub written: usize,
+struct Turn {
+    state: State,
+    stage: u8,
+    held: usize,
+    next: usize,
+    written: usize,
 }
 
 // The first line, a step, or a line after a bad first line, which is passed over.
