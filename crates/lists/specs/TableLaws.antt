@@ -9,8 +9,8 @@ use lib.Seq.{length-take-le, drop-cons, append-snoc, getD-append-seam, set-appen
 use Rattle.lists.specs.Table.{edit, pad, filled}
 
 module _ {A : Type 0} where
-  -- a table with more places, as yet empty, holds what it held
-  getD-fill : (d : A) (k i : ℕ) → getD (replicate k d) i d ≡ d
+  -- an empty table holds nothing at any place
+  pub getD-fill : (d : A) (k i : ℕ) → getD (replicate k d) i d ≡ d
   getD-fill d zero i = refl
   getD-fill d (suc k) zero = refl
   getD-fill d (suc k) (suc i) = getD-fill d k i

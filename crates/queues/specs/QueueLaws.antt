@@ -17,7 +17,7 @@ use Rattle.lists.specs.Order.{keep, upTo, byId, place, insertTail, insertHead, 
 use Rattle.lists.specs.Table.{pad}
 use Rattle.lists.specs.TestLaws.{which, by-test, or-true, or-l, or-r, all-true, true-all}
 use Rattle.lists.specs.CountLaws.{eqn-at, eqn-other}
-use Rattle.lists.specs.OrderLaws.{keep-append}
+use Rattle.lists.specs.OrderLaws.{insertAll-append, keep-append}
 use Rattle.lists.specs.TableLaws.{pad-snoc}
 use Rattle.queues.specs.Queue.{places, noId, items, queueOf, restEmpty, keyOf, pushed, placeOf, insertedAt, inserted, kept, insertedIf, insertedFlagged, counted}
 use Rattle.queues.specs.declared.Queue.{Queue}
@@ -104,11 +104,6 @@ head-queueOf keys x l h = insert-queueOf keys (keyOf keys x) x l h
 byId-suc : (p : ℕ → Bool) (n : ℕ) → byId (suc n) p ≡ byId n p ++ keep p (n ∷ [])
 unfolding byId upTo
 byId-suc p n = keep-append p (upTo n) (n ∷ [])
-
-insertAll-append : (f : ℕ → ℕ) (xs ys l : List ℕ) → insertAll f (xs ++ ys) l ≡ insertAll f ys (insertAll f xs l)
-unfolding insertAll
-insertAll-append f [] ys l = refl
-insertAll-append f (x ∷ xs) ys l = insertAll-append f xs ys (insertTail f x l)
 
 pub length-insertAll : (f : ℕ → ℕ) (xs l : List ℕ) → length (insertAll f xs l) ≡ length xs + length l
 unfolding insertAll insertTail

@@ -24,7 +24,7 @@ use Rattle.record.specs.Record.{view, pack}
 use Rattle.record.specs.SoundRecord.{tidyb, soundOf}
 use Rattle.record.specs.StepRecord.{stepFor, numberOf, valueOf, runOf, answerFor, outFor, stays, stepOf}
 use Rattle.record.specs.GoodRecord.{Typed}
-use Rattle.record.specs.ViewLaws.{running-id}
+use Rattle.record.specs.TidyLaws.{running-id}
 use Rattle.record.specs.PackLaws.{id-back}
 use Rattle.record.specs.SoundPackLaws.{view-pack, pack-sound, sound-view, sound-pack}
 use Rattle.record.specs.ColumnLaws.{chosen}

@@ -7,6 +7,7 @@ pub mod Setters
 pub mod Reads
 pub mod GoodRecord
 pub mod ColumnLaws
+pub mod TidyLaws
 pub mod ViewLaws
 pub mod PackLaws
 pub mod ReadLaws

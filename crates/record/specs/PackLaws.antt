@@ -12,7 +12,7 @@ use lib.Seq.{length-take-le, getD-take}
 use borrow.Author.Tests.{ltb-true, leb-true, eqb-true, eqb-false, not-true, lt-ltb, le-ltb}
 use Rattle.lists.specs.Test.{_and_, someb}
 use Rattle.lists.specs.Table.{pad, filled}
-use Rattle.lists.specs.TestLaws.{and-l, and-r, or-true, all-true}
+use Rattle.lists.specs.TestLaws.{and-l, and-r, or-true}
 use Rattle.lists.specs.TableLaws.{map-filled, pad-filled, pad-take}
 use Rattle.rules.specs.Sizes.{maxTasks, maxMutexes, maxSemaphores, wordSize}
 use Rattle.rules.specs.Tables.{Wait, Tables, tasks, mutexes, semaphores}
@@ -25,9 +25,11 @@ use Rattle.queues.specs.QueueLaws.{queue-of-items}
 use Rattle.walks.specs.Walk.{taskAt}
 use Rattle.walks.specs.WalkLaws.{other-default, task-in}
 use Rattle.record.specs.Record.{ticksLeft, dueAt, leftIn, waitIn, waitAt, viewTables, view, awaitedKind, awaitedObject, leftCode, kindCode, objectCode, timedCode, dueCode, packTasks, packMutexes, packSemaphores, pack}
-use Rattle.record.specs.SoundRecord.{usedTaskb, unusedTaskb, taskPlaceb, tasksTidyb, idb, mutexPlaceb, mutexesTidyb, semPlaceb, semaphoresTidyb, queueTidyb, tidyb, levelsb}
+use Rattle.record.specs.SoundRecord.{usedTaskb, unusedTaskb, idb, mutexPlaceb, semPlaceb, queueTidyb, tidyb, levelsb}
 use Rattle.record.specs.Setters.{withTasks, withLevel}
 use Rattle.record.specs.GoodRecord.{Typed}
+use Rattle.record.specs.TidyLaws.{tasks-fit, mutexes-fit, semaphores-fit, mutex-place, sem-place, used-task, unused-task}
+use Rattle.record.specs.ViewLaws.{stored-level, view-tasks}
 use Rattle.record.specs.declared.State.{State}  -- keep
 use Rattle.record.specs.declared.Tasks.{Tasks}  -- keep
 use Rattle.record.specs.declared.Mutexes.{Mutexes}  -- keep
@@ -132,14 +134,14 @@ unused-places t i e =
     }
 
 -- records are equal where their parts are
-same-tasks : (a b : Tasks) → a .due ≡ b .due → a .priority ≡ b .priority → a .level ≡ b .level → a .outcome ≡ b .outcome
+pub same-tasks : (a b : Tasks) → a .due ≡ b .due → a .priority ≡ b .priority → a .level ≡ b .level → a .outcome ≡ b .outcome
     → a .wait ≡ b .wait → a .object ≡ b .object → a .timed ≡ b .timed → a .n ≡ b .n → a ≡ b
 same-tasks a b p1 p2 p3 p4 p5 p6 p7 p8 = λ i. record { due = p1 i; priority = p2 i; level = p3 i; outcome = p4 i; wait = p5 i; object = p6 i; timed = p7 i; n = p8 i }
 
-same-mutexes : (a b : Mutexes) → a .kind ≡ b .kind → a .owner ≡ b .owner → a .n ≡ b .n → a ≡ b
+pub same-mutexes : (a b : Mutexes) → a .kind ≡ b .kind → a .owner ≡ b .owner → a .n ≡ b .n → a ≡ b
 same-mutexes a b p q r = λ i. record { kind = p i; owner = q i; n = r i }
 
-same-semaphores : (a b : Semaphores) → a .count ≡ b .count → a .maximum ≡ b .maximum → a .n ≡ b .n → a ≡ b
+pub same-semaphores : (a b : Semaphores) → a .count ≡ b .count → a .maximum ≡ b .maximum → a .n ≡ b .n → a ≡ b
 same-semaphores a b p q r = λ i. record { count = p i; maximum = q i; n = r i }
 
 pub same-state : (a b : State) → a .tasks ≡ b .tasks → a .semaphores ≡ b .semaphores → a .clock ≡ b .clock → a .mutexes ≡ b .mutexes
@@ -160,106 +162,77 @@ task-back none h = refl
 task-back (some i) h = task-in i (h i refl)
 
 -- the tables of tasks
-module _ (k : State) (T : Typed k) (tidy : tasksTidyb (k .tasks) ≡ true) where
-  few-tasks : k .tasks .n ≤ maxTasks
-  unfolding tasksTidyb
-  few-tasks = leb-true _ _ (and-l _ _ tidy)
-
-  place-of : (i : ℕ) → i < maxTasks → taskPlaceb (k .tasks) i ≡ true
-  unfolding tasksTidyb
-  place-of = all-true maxTasks (taskPlaceb (k .tasks)) (and-r _ _ tidy)
-
-  used-at : (i : ℕ) → i < k .tasks .n → usedTaskb (k .tasks) i ≡ true
-  unfolding taskPlaceb
-  used-at i h = rw (lt-ltb i (k .tasks .n) h) at (place-of i (omega (arith, few-tasks)))
-
+module _ (k : State) (T : Typed k) (tidy : tidyb k ≡ true) where
   unused-at : (i : ℕ) → k .tasks .n ≤ i → i < maxTasks → Unused (k .tasks) i
-  unfolding taskPlaceb
-  unused-at i h l = unused-places (k .tasks) i (rw (le-ltb i (k .tasks .n) h) at (place-of i l))
+  unused-at i h l = unused-places (k .tasks) i (unused-task k tidy i h l)
 
   codes-at : (i : ℕ) → i < k .tasks .n
       → Codes (k .clock) (waitAt (k .tasks) (k .clock) i) (getD (k .tasks .wait) i 0) (getD (k .tasks .object) i 0) (getD (k .tasks .timed) i 0) (getD (k .tasks .due) i 0)
-  codes-at i h = used-codes (k .tasks) (k .clock) i (T .clock-word) (T .due-word i) (used-at i h)
+  codes-at i h = used-codes (k .tasks) (k .clock) i (T .clock-word) (T .due-word i) (used-task k tidy i h)
 
   -- a column of codes
   code-column : (f : Option Wait → ℕ) (a : List ℕ) → length a ≡ maxTasks
       → ((i : ℕ) → i < k .tasks .n → f (waitAt (k .tasks) (k .clock) i) ≡ getD a i 0) → ((i : ℕ) → k .tasks .n ≤ i → i < maxTasks → getD a i 0 ≡ 0)
       → pad maxTasks 0 (map f (filled (k .tasks .n) (waitAt (k .tasks) (k .clock)))) ≡ a
-  code-column f a e u v = rw (map-filled f (k .tasks .n) (waitAt (k .tasks) (k .clock))) (pad-filled maxTasks 0 (k .tasks .n) (λ i. f (waitAt (k .tasks) (k .clock) i)) a few-tasks e u v)
-
-  tasks-viewed : tasks (viewTables k) ≡ k .tasks .n
-  unfolding viewTables
-  tasks-viewed = length-take-le (k .tasks .n) (k .tasks .priority) (omega (arith, few-tasks, T .priority-length))
-
-  level-at : levelsb k ≡ true → (i : ℕ) → i < k .tasks .n → levelIn (viewTables k) i ≡ getD (k .tasks .level) i 0
-  unfolding levelsb
-  level-at lv i h = sym (eqb-true _ _ (all-true (k .tasks .n) (λ j. eqb (getD (k .tasks .level) j 0) (levelIn (viewTables k) j)) lv i h))
+  code-column f a e u v = rw (map-filled f (k .tasks .n) (waitAt (k .tasks) (k .clock))) (pad-filled maxTasks 0 (k .tasks .n) (λ i. f (waitAt (k .tasks) (k .clock) i)) a (tasks-fit k tidy) e u v)
 
   good-levels : levelsb k ≡ true → pad maxTasks 0 (filled (tasks (viewTables k)) (levelIn (viewTables k))) ≡ k .tasks .level
-  good-levels lv = pad-filled maxTasks 0 (tasks (viewTables k)) (levelIn (viewTables k)) (k .tasks .level) (omega (arith, few-tasks, tasks-viewed)) (T .level-length)
-      (λ i h. level-at lv i (omega (arith, tasks-viewed))) (λ i h l. unused-at i (omega (arith, tasks-viewed)) l .no-level)
+  good-levels lv = pad-filled maxTasks 0 (tasks (viewTables k)) (levelIn (viewTables k)) (k .tasks .level) (omega (arith, tasks-fit k tidy, view-tasks k T tidy)) (T .level-length)
+      (λ i h. sym (stored-level k lv i (omega (arith, view-tasks k T tidy)))) (λ i h l. unused-at i (omega (arith, view-tasks k T tidy)) l .no-level)
 
   good-tasks : levelsb k ≡ true → packTasks (viewTables k) (k .clock) ≡ k .tasks
   unfolding packTasks viewTables
   good-tasks lv = same-tasks _ _
       (code-column (dueCode (k .clock)) (k .tasks .due) (T .due-length) (λ i h. codes-at i h .3) (λ i h l. unused-at i h l .no-due))
-      (pad-take maxTasks 0 (k .tasks .n) (k .tasks .priority) few-tasks (T .priority-length) (λ i h l. unused-at i h l .no-priority))
+      (pad-take maxTasks 0 (k .tasks .n) (k .tasks .priority) (tasks-fit k tidy) (T .priority-length) (λ i h l. unused-at i h l .no-priority))
       (good-levels lv)
-      (pad-take maxTasks 0 (k .tasks .n) (k .tasks .outcome) few-tasks (T .outcome-length) (λ i h l. unused-at i h l .no-outcome))
+      (pad-take maxTasks 0 (k .tasks .n) (k .tasks .outcome) (tasks-fit k tidy) (T .outcome-length) (λ i h l. unused-at i h l .no-outcome))
       (code-column kindCode (k .tasks .wait) (T .wait-length) (λ i h. codes-at i h .0) (λ i h l. unused-at i h l .no-wait))
       (code-column objectCode (k .tasks .object) (T .object-length) (λ i h. codes-at i h .1) (λ i h l. unused-at i h l .no-object))
       (code-column timedCode (k .tasks .timed) (T .timed-length) (λ i h. codes-at i h .2) (λ i h l. unused-at i h l .no-timed))
-      tasks-viewed
+      (view-tasks k T tidy)
 
 -- the tables of mutexes
 owners-back : (l : List ℕ) → ((i : ℕ) → i < length l → idb (getD l i noId) ≡ true) → map idOf (map taskAt l) ≡ l
 owners-back [] h = refl
 owners-back (x ∷ l) h = rw (id-back x (h 0 (omega arith)), owners-back l (λ i q. h (suc i) (omega arith)))
 
-module _ (k : State) (T : Typed k) (tidy : mutexesTidyb (k .mutexes) ≡ true) where
-  few-mutexes : k .mutexes .n ≤ maxMutexes
-  unfolding mutexesTidyb
-  few-mutexes = leb-true _ _ (and-l _ _ tidy)
-
-  mutex-at : (i : ℕ) → i < maxMutexes → mutexPlaceb (k .mutexes) i ≡ true
-  unfolding mutexesTidyb
-  mutex-at = all-true maxMutexes (mutexPlaceb (k .mutexes)) (and-r _ _ tidy)
-
+module _ (k : State) (T : Typed k) (tidy : tidyb k ≡ true) where
   other : (i : ℕ) → i < maxMutexes → getD (k .mutexes .owner) i 0 ≡ getD (k .mutexes .owner) i noId
   other i h = other-default (k .mutexes .owner) i 0 noId (omega (arith, T .owner-length))
 
   owner-in : (i : ℕ) → i < k .mutexes .n → idb (getD (k .mutexes .owner) i noId) ≡ true
   unfolding mutexPlaceb
-  owner-in i h = rw (← other i (omega (arith, few-mutexes))) (rw (lt-ltb i (k .mutexes .n) h) at (mutex-at i (omega (arith, few-mutexes))))
+  owner-in i h = rw (← other i (omega (arith, mutexes-fit k tidy))) (rw (lt-ltb i (k .mutexes .n) h) at (mutex-place k tidy i (omega (arith, mutexes-fit k tidy))))
 
   mutex-out : (i : ℕ) → k .mutexes .n ≤ i → i < maxMutexes → (getD (k .mutexes .kind) i 0 ≡ 0) × (getD (k .mutexes .owner) i noId ≡ noId)
   unfolding mutexPlaceb
-  mutex-out i h l = let e = rw (le-ltb i (k .mutexes .n) h) at (mutex-at i l) in (eqb-true _ _ (and-l _ _ e), sym (other i l) ∙ eqb-true _ _ (and-r _ _ e))
+  mutex-out i h l = let e = rw (le-ltb i (k .mutexes .n) h) at (mutex-place k tidy i l) in (eqb-true _ _ (and-l _ _ e), sym (other i l) ∙ eqb-true _ _ (and-r _ _ e))
 
   good-mutexes : packMutexes (viewTables k) ≡ k .mutexes
   unfolding packMutexes viewTables
   good-mutexes = same-mutexes _ _
-      (pad-take maxMutexes 0 (k .mutexes .n) (k .mutexes .kind) few-mutexes (T .kind-length) (λ i h l. mutex-out i h l .0))
+      (pad-take maxMutexes 0 (k .mutexes .n) (k .mutexes .kind) (mutexes-fit k tidy) (T .kind-length) (λ i h l. mutex-out i h l .0))
       (rw (owners-back (take (k .mutexes .n) (k .mutexes .owner)) (λ i h. let q : i < k .mutexes .n = omega (arith, m) in rw (getD-take (k .mutexes .n) (k .mutexes .owner) i noId q) (owner-in i q)))
-      (pad-take maxMutexes noId (k .mutexes .n) (k .mutexes .owner) few-mutexes (T .owner-length) (λ i h l. mutex-out i h l .1)))
+      (pad-take maxMutexes noId (k .mutexes .n) (k .mutexes .owner) (mutexes-fit k tidy) (T .owner-length) (λ i h l. mutex-out i h l .1)))
       (length-map (take (k .mutexes .n) (k .mutexes .owner)) taskAt ∙ m)
     where
       m : length (take (k .mutexes .n) (k .mutexes .owner)) ≡ k .mutexes .n
-      m = length-take-le (k .mutexes .n) (k .mutexes .owner) (omega (arith, few-mutexes, T .owner-length))
+      m = length-take-le (k .mutexes .n) (k .mutexes .owner) (omega (arith, mutexes-fit k tidy, T .owner-length))
 
 -- the tables of semaphores
-good-semaphores : (k : State) → Typed k → semaphoresTidyb (k .semaphores) ≡ true → packSemaphores (viewTables k) ≡ k .semaphores
-unfolding semaphoresTidyb semPlaceb packSemaphores viewTables
+good-semaphores : (k : State) → Typed k → tidyb k ≡ true → packSemaphores (viewTables k) ≡ k .semaphores
+unfolding semPlaceb packSemaphores viewTables
 good-semaphores k T tidy = same-semaphores _ _
     (pad-take maxSemaphores 0 (k .semaphores .n) (k .semaphores .count) few (T .count-length) (λ i h l. eqb-true _ _ (and-l _ _ (out i h l))))
     (pad-take maxSemaphores 0 (k .semaphores .n) (k .semaphores .maximum) few (T .maximum-length) (λ i h l. eqb-true _ _ (and-r _ _ (out i h l))))
     (length-take-le (k .semaphores .n) (k .semaphores .count) (omega (arith, few, T .count-length)))
   where
     few : k .semaphores .n ≤ maxSemaphores
-    few = leb-true _ _ (and-l _ _ tidy)
+    few = semaphores-fit k tidy
 
     out : (i : ℕ) → k .semaphores .n ≤ i → i < maxSemaphores → eqb (getD (k .semaphores .count) i 0) 0 and eqb (getD (k .semaphores .maximum) i 0) 0 ≡ true
-    out i h l = elim (or-true _ _ (all-true maxSemaphores (semPlaceb (k .semaphores)) (and-r _ _ tidy) i l)) [
+    out i h l = elim (or-true _ _ (sem-place k tidy i l)) [
       | inl f ↦ absurd (omega (arith, ltb-true i (k .semaphores .n) f))
       | inr f ↦ f
     ]
@@ -283,10 +256,10 @@ good-pack k T e lv =
     let e4 = and-r _ _ e3 in
     let e5 = and-r _ _ e4 in
     same-state _ _
-    (good-tasks k T (and-l _ _ e) lv)
-    (good-semaphores k T (and-l _ _ e2))
+    (good-tasks k T e lv)
+    (good-semaphores k T e)
     refl
-    (good-mutexes k T (and-l _ _ e1))
+    (good-mutexes k T e)
     (good-queue (k .ready) (T .ready-length) (and-l _ _ e3))
     (good-queue (k .waiting) (T .waiting-length) (and-l _ _ e4))
     (started-back (k .started) (leb-true _ _ (and-l _ _ e5)))

@@ -9,81 +9,24 @@ use native.Mathlib.Decide.{decLt}
 use lib.Dec.{eqb}
 use lib.ListN.{length, getD, take, List·getD-eq-default, List·getD-map, length-map, length-take}
 use lib.Seq.{length-take-le, getD-take}
-use borrow.Author.Tests.{ltb-true, leb-true, eqb-true, not-true, lt-ltb, le-ltb, eq-eqb, ne-eqb}
+use borrow.Author.Tests.{ltb-true, eqb-true, lt-ltb, le-ltb, ne-eqb}
 use Rattle.lists.specs.Table.{filled}
-use Rattle.lists.specs.TestLaws.{which, clash, by-test, and-l, and-r, or-true, all-true}
+use Rattle.lists.specs.TestLaws.{which, by-test, and-l, and-r, or-true, all-true}
 use Rattle.lists.specs.TableLaws.{length-filled, getD-filled}
 use Rattle.chains.specs.Least.{leastLeading}
-use Rattle.rules.specs.Sizes.{maxTasks, maxMutexes, maxSemaphores, inheriting}
+use Rattle.rules.specs.Sizes.{maxTasks, maxMutexes, inheriting}
 use Rattle.rules.specs.Tables.{tasks, mutexes, semaphores, priorityOf, outcomeOf, waitOf, kindOf, ownerOf, countOf, maximumOf}
 use Rattle.rules.specs.Levels.{mutexAwaited, andThen, next, heirOf, lends, levelIn}
-use Rattle.queues.specs.Queue.{places, noId, keyOf}
+use Rattle.queues.specs.Queue.{noId, keyOf}
 use Rattle.walks.specs.Walk.{taskAt, nextIn, raised}
 use Rattle.walks.specs.WalkLaws.{other-default, next-in, next-out, next-agrees, leading-own, raised-ext}
 use Rattle.record.specs.Record.{onMutex, onSemaphore, onTime, leftIn, waitIn, waitAt, viewTables}
-use Rattle.record.specs.SoundRecord.{usedTaskb, unusedTaskb, taskPlaceb, tasksTidyb, idb, mutexPlaceb, mutexesTidyb, semaphoresTidyb, queueTidyb, tidyb, levelsb}
+use Rattle.record.specs.SoundRecord.{unusedTaskb, mutexPlaceb, tidyb, levelsb}
 use Rattle.record.specs.Reads.{ownerAt, kindAt, nextAt, lendsAt, newLevels, countAt, maximumAt}
 use Rattle.record.specs.GoodRecord.{Typed}
+use Rattle.record.specs.TidyLaws.{tasks-fit, mutexes-fit, semaphores-fit, mutex-place, unused-task}
 use Rattle.record.specs.declared.State.{State}  -- keep
 use Rattle.rules.specs.Levels.{mutexIn}  -- keep
-
--- what the test of unused places tells
-module _ (k : State) (tidy : tidyb k ≡ true) where
-  pub tasks-fit : k .tasks .n ≤ maxTasks
-  unfolding tidyb tasksTidyb
-  tasks-fit = leb-true _ _ (and-l _ _ (and-l _ _ tidy))
-
-  pub mutexes-fit : k .mutexes .n ≤ maxMutexes
-  unfolding tidyb mutexesTidyb
-  mutexes-fit = leb-true _ _ (and-l _ _ (and-l _ _ (and-r _ _ tidy)))
-
-  pub semaphores-fit : k .semaphores .n ≤ maxSemaphores
-  unfolding tidyb semaphoresTidyb
-  semaphores-fit = leb-true _ _ (and-l _ _ (and-l _ _ (and-r _ _ (and-r _ _ tidy))))
-
-  pub ready-fits : k .ready .n ≤ places
-  unfolding tidyb queueTidyb
-  ready-fits = leb-true _ _ (and-l _ _ (and-l _ _ (and-r _ _ (and-r _ _ (and-r _ _ tidy)))))
-
-  pub waiting-fits : k .waiting .n ≤ places
-  unfolding tidyb queueTidyb
-  waiting-fits = leb-true _ _ (and-l _ _ (and-l _ _ (and-r _ _ (and-r _ _ (and-r _ _ (and-r _ _ tidy))))))
-
-  pub running-id : idb (k .running) ≡ true
-  unfolding tidyb
-  running-id = and-r _ _ (and-r _ _ (and-r _ _ (and-r _ _ (and-r _ _ (and-r _ _ tidy)))))
-
-  pub running-or : (k .running < maxTasks) ⊎ (k .running ≡ noId)
-  running-or = elim (or-true _ _ running-id) [ inl u ↦ inl (ltb-true _ _ u) | inr u ↦ inr (eqb-true _ _ u) ]
-
-  -- one place of each table
-  task-place : (i : ℕ) → i < maxTasks → taskPlaceb (k .tasks) i ≡ true
-  unfolding tidyb tasksTidyb
-  task-place = all-true maxTasks (taskPlaceb (k .tasks)) (and-r _ _ (and-l _ _ tidy))
-
-  mutex-place : (j : ℕ) → j < maxMutexes → mutexPlaceb (k .mutexes) j ≡ true
-  unfolding tidyb mutexesTidyb
-  mutex-place = all-true maxMutexes (mutexPlaceb (k .mutexes)) (and-r _ _ (and-l _ _ (and-r _ _ tidy)))
-
-  pub used-task : (i : ℕ) → i < k .tasks .n → usedTaskb (k .tasks) i ≡ true
-  unfolding taskPlaceb
-  used-task i h = rw (lt-ltb i (k .tasks .n) h) at (task-place i (omega (arith, tasks-fit)))
-
-  pub unused-task : (i : ℕ) → k .tasks .n ≤ i → i < maxTasks → unusedTaskb (k .tasks) i ≡ true
-  unfolding taskPlaceb
-  unused-task i h l = rw (le-ltb i (k .tasks .n) h) at (task-place i l)
-
-  -- the kind of wait is one of the four, and who does not wait has no due time
-  pub wait-kind : (i : ℕ) → i < k .tasks .n → getD (k .tasks .wait) i 0 ≤ onTime
-  unfolding usedTaskb
-  wait-kind i h = leb-true _ _ (and-l _ _ (used-task i h))
-
-  pub timed-waits : (i : ℕ) → i < k .tasks .n → getD (k .tasks .wait) i 0 ≡ 0 → getD (k .tasks .timed) i 0 ≡ 0
-  unfolding usedTaskb
-  timed-waits i h e = elim (or-true _ _ (and-l _ _ (and-r _ _ (and-r _ _ (and-r _ _ (used-task i h)))))) [
-    | inl u ↦ eqb-true _ _ u
-    | inr u ↦ absurd (clash (eq-eqb (getD (k .tasks .wait) i 0) 0 e) (not-true _ u))
-  ]
 
 -- a stored level, where stored levels are as defined
 pub stored-level : (k : State) → levelsb k ≡ true → (i : ℕ) → i < k .tasks .n → keyOf (k .tasks .level) i ≡ levelIn (viewTables k) i

@@ -109,6 +109,10 @@ facts-addSem t count max one low room F = record {
     more : length (t .counts ++ (count ∷ [])) ≡ suc (semaphores t)
     more = length-snoc (t .counts) count
 
+-- who is ready exists
+pub ready-in : (s : State) → Inv s → (i : ℕ) → 1 ≤ occ i (s .ready) → i < tasks (s .tables)
+ready-in s I i m = in-below i (tasks (s .tables)) (omega (arith, I .places i))
+
 -- in set-up, where a level is the own priority
 module _ (s : State) (I : Inv s) (off : s .started ≡ false) where
   U : SetUp s
@@ -118,12 +122,9 @@ module _ (s : State) (I : Inv s) (off : s .started ≡ false) where
   alone : (t : Tables) → Facts t → ((i : ℕ) → occ i (t .waiting) ≡ 0) → (i : ℕ) → i < tasks t → levelIn t i ≡ priorityOf t i
   alone t F h i k = level-alone t F (λ j. wait-none (waitOf t j) (sym (F .waiting j) ∙ h j)) i k
 
-  ready-in : (i : ℕ) → 1 ≤ occ i (s .ready) → i < tasks (s .tables)
-  ready-in i m = in-below i (tasks (s .tables)) (omega (arith, I .places i))
-
   ready-alone : (t : Tables) → Facts t → ((i : ℕ) → occ i (t .waiting) ≡ 0) → tasks (s .tables) ≤ tasks t
       → ((i : ℕ) → i < tasks (s .tables) → priorityOf t i ≡ priorityOf (s .tables) i) → (i : ℕ) → 1 ≤ occ i (s .ready) → levelIn t i ≡ levelOf s i
-  ready-alone t F h le same i m = let k = ready-in i m in
+  ready-alone t F h le same i m = let k = ready-in s I i m in
       alone t F h i (omega arith) ∙ (same i k ∙ sym (alone (s .tables) (I .facts) (U .nobody-waits) i k))
 
   -- a creation that makes no task
@@ -169,7 +170,7 @@ module _ (s : State) (I : Inv s) (off : s .started ≡ false) where
         nothing-owned = U .nothing-owned;
         outcomes-0 = λ i. snoc-default granted (s .tables .outcomes) i ∙ U .outcomes-0 i;
         by-id = subst (Ties (levelIn t)) (sym order)
-            (ties-insertTail (levelIn t) n (s .ready) (asc-change (levelOf s) (levelIn t) (s .ready) (λ y m. sym (same y m)) (I .ascending)) ready-in
+            (ties-insertTail (levelIn t) n (s .ready) (asc-change (levelOf s) (levelIn t) (s .ready) (λ y m. sym (same y m)) (I .ascending)) (ready-in s I)
             (ties-change (levelOf s) (levelIn t) (s .ready) (λ y m. sym (same y m)) (U .by-id)));
       })
     where

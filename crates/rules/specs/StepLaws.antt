@@ -24,7 +24,7 @@ use Rattle.rules.specs.Settle.{settle, finish}
 use Rattle.rules.specs.Refusal.{Row, isWaitingTime, isSleepTime, held, ofCaller, taken, noCredit, noSuchMutex, noSuchSem, refusals, firstRow}
 use Rattle.rules.specs.Sound.{waitCount}
 use Rattle.rules.specs.Answer.{decide, stepSound}
-use Rattle.rules.specs.Invariant.{Unavailable, Left, Outcome, Facts, HoldRuns, SetUp, Started, Inv}
+use Rattle.rules.specs.Invariant.{Unavailable, Left, Facts, HoldRuns, SetUp, Started, Inv}
 use Rattle.rules.specs.FactsLaws.{facts-give, facts-free, facts-begin, wait-ended, facts-end, facts-count, facts-age}
 use Rattle.rules.specs.SettleLaws.{settled-same, finish-inv}
 use Rattle.rules.specs.WaiterLaws.{wait-none, awaits-waits, mutex-awaits, sem-blocked, not-due, outcome-due, wait-in, best-waits, nobody-best, places-end}
@@ -189,13 +189,10 @@ module _ (s : State) (I : Inv s) where
     tick-inv : Keeps (tickOf s)
     unfolding tickOf
     tick-inv = end-inv (ageAll t) (due (s .tables)) ((s .clock + 1) % wordSize)
-        (facts-age t later (facts-end (s .tables) (due (s .tables)) (λ i. outcomeDue (waitOf (s .tables) i)) (λ i q. expired (waitOf (s .tables) i)) (I .facts))) (omega arith) refl refl
+        (facts-age t later (facts-end (s .tables) (due (s .tables)) (λ i. outcomeDue (waitOf (s .tables) i)) (λ i q. outcome-due (waitOf (s .tables) i)) (I .facts))) (omega arith) refl refl
       where
         t : Tables
         t = endWaits (s .tables) (due (s .tables)) (λ i. outcomeDue (waitOf (s .tables) i))
-
-        expired : (w : Option Wait) → Outcome none (outcomeDue w)
-        expired w = outcome-due w
 
         later : (i : ℕ) → due t i ≡ false
         later i = rw (wait-ended (s .tables) (due (s .tables)) (λ j. outcomeDue (waitOf (s .tables) j)) i) (by-test (λ (w : Option Wait). isDue w ≡ false) (due (s .tables) i) (λ e. no-wait) (λ e. e))

@@ -28,7 +28,8 @@ use Rattle.record.specs.SoundRecord.{tidyb, levelsb, soundOf}
 use Rattle.record.specs.Reads.{ownerAt}
 use Rattle.sound.specs.Checks.{prioritiesIn, mutexesIn, countsIn, tasksIn, placesIn, ringless, levelsIn, topIn, startedIn, setUpIn, checks}
 use Rattle.record.specs.GoodRecord.{Typed}
-use Rattle.record.specs.ViewLaws.{tasks-fit, mutexes-fit, semaphores-fit, ready-fits, waiting-fits, running-or, stored-level, owner-id, view-tasks, view-outcomes, view-waits, view-mutexes, view-kinds, view-semaphores, view-maxima, view-outcome, view-owner}
+use Rattle.record.specs.TidyLaws.{tasks-fit, mutexes-fit, semaphores-fit, ready-fits, waiting-fits, running-or}
+use Rattle.record.specs.ViewLaws.{stored-level, owner-id, view-tasks, view-outcomes, view-waits, view-mutexes, view-kinds, view-semaphores, view-maxima, view-outcome, view-owner}
 use Rattle.sound.specs.TableCheckLaws.{priorities-same, mutexes-same, counts-same, tasks-same, ring-same, levels-same, places-same}
 use Rattle.record.specs.declared.State.{State}  -- keep
 

@@ -29,7 +29,8 @@ use Rattle.record.specs.SoundRecord.{tidyb, levelsb}
 use Rattle.record.specs.Reads.{ownerAt, nextAt, countAt}
 use Rattle.sound.specs.Checks.{prioritiesIn, mutexesIn, countIn, countsIn, blockedAt, timedAt, outcomeAt, taskIn, tasksIn, placeAt, placesIn, ringless, levelsIn}
 use Rattle.record.specs.GoodRecord.{Typed}
-use Rattle.record.specs.ViewLaws.{tasks-fit, ready-fits, waiting-fits, running-or, wait-kind, timed-waits, owner-id, unused-owner, view-tasks, view-mutexes, view-semaphores, view-priority, view-outcome, view-wait, view-kind, view-owner, view-count, view-maximum, next-same, new-level}
+use Rattle.record.specs.TidyLaws.{tasks-fit, ready-fits, waiting-fits, running-or, wait-kind, timed-waits}
+use Rattle.record.specs.ViewLaws.{owner-id, unused-owner, view-tasks, view-mutexes, view-semaphores, view-priority, view-outcome, view-wait, view-kind, view-owner, view-count, view-maximum, next-same, new-level}
 use Rattle.record.specs.declared.State.{State}  -- keep
 use Rattle.sound.specs.Checks.{mutexIn}  -- keep
 

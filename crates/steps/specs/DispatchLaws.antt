@@ -6,9 +6,9 @@ use mathlib.Core.Logic.{inl, inr}
 use mathlib.Core.Option.{Option, none, some}
 use Prim.Native.Nat.{ℕ, suc, _+_, _≤_, _<_}
 use native.Mathlib.Omega.{arith}
-use native.Mathlib.Decide.{ℕ-discrete, decLt}
+use native.Mathlib.Decide.{ℕ-discrete}
 use lib.Dec.{ltb, eqb}
-use lib.ListN.{length, List·getD-eq-default, replicate, getD-replicate}
+use lib.ListN.{length, replicate}
 use lib.Seq.{getD-set-same, getD-set-other}
 use borrow.Author.Tests.{lt-ltb, ne-eqb}
 use Rattle.lists.specs.Test.{_and_}
@@ -19,6 +19,7 @@ use Rattle.lists.specs.TestLaws.{which, true-and, false-and}
 use Rattle.lists.specs.CountLaws.{eqn-at, eqn-other, in-below, below-le, pigeonhole}
 use Rattle.lists.specs.OrderLaws.{keep-all}
 use Rattle.chains.specs.Chain.{on}
+use Rattle.lists.specs.TableLaws.{getD-fill}
 use Rattle.rules.specs.Sizes.{maxTasks}
 use Rattle.rules.specs.Tables.{tasks}
 use Rattle.rules.specs.Settle.{meet, dispatch}
@@ -36,18 +37,9 @@ use Rattle.rules.specs.State.{State as Model, levelOf, placed}  -- keep
 pub single-at : (x y : ℕ) → x < maxTasks → keyOf (single x) y ≡ eqn x y
 unfolding single
 single-at x y h = rw (lt-ltb x maxTasks h) (elim (ℕ-discrete x y) [
-  | yes e ↦ rw (← e) (getD-set-same zeros x 1 0 h ∙ sym (eqn-at x x refl))
-  | no e ↦ getD-set-other zeros x y 1 0 (λ q. e (sym q)) ∙ blank ∙ sym (eqn-other x y e)
+  | yes e ↦ rw (← e) (getD-set-same (replicate maxTasks 0) x 1 0 h ∙ sym (eqn-at x x refl))
+  | no e ↦ getD-set-other (replicate maxTasks 0) x y 1 0 (λ q. e (sym q)) ∙ getD-fill 0 maxTasks y ∙ sym (eqn-other x y e)
 ])
-  where
-    zeros : List ℕ
-    zeros = replicate maxTasks 0
-
-    blank : keyOf zeros y ≡ 0
-    blank = elim (decLt y maxTasks) [
-      | yes q ↦ getD-replicate maxTasks y 0 0 q
-      | no q ↦ (let b : length zeros ≤ y = omega arith in List·getD-eq-default zeros 0 b)
-    ]
 
 -- the first leaves
 pub first-leaves : (x : ℕ) (l : List ℕ) → x < maxTasks → occ x l ≡ 0 → without (queueOf (x ∷ l)) x ≡ queueOf l

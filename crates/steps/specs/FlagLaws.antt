@@ -7,7 +7,7 @@ use Prim.Native.Nat.{ℕ, zero, suc, _+_, _≤_, _<_}
 use native.Mathlib.Omega.{arith}
 use native.Mathlib.Decide.{ℕ-discrete}
 use lib.Dec.{eqb}
-use lib.ListN.{length, getD, set, length-set, replicate}
+use lib.ListN.{length, getD, set, length-set}
 use lib.Seq.{getD-set-same, getD-set-other, ext-getD}
 use borrow.Author.Tests.{lt-ltb, le-ltb, eq-eqb, ne-eqb}
 use Rattle.lists.specs.Count.{eqn, occ, member}
@@ -34,12 +34,6 @@ flag-one flags p h i = rw (h i) (by-test (λ (x : ℕ). eqb x 1 ≡ p i) (p i) (
 
 pub flag-zero : (flags : List ℕ) (p : ℕ → Bool) → Flags flags p → (i : ℕ) → eqb (keyOf flags i) 0 ≡ not (p i)
 flag-zero flags p h i = rw (h i) (by-test (λ (x : ℕ). eqb x 0 ≡ not (p i)) (p i) (λ e. rw e refl) (λ e. rw e refl))
-
--- no flag at all
-pub zeros : (n i : ℕ) → keyOf (replicate n 0) i ≡ 0
-zeros zero i = refl
-zeros (suc n) zero = refl
-zeros (suc n) (suc i) = zeros n i
 
 -- one task
 pub single-flags : (w : ℕ) → w < maxTasks → Flags (single w) (eqb w)

@@ -14,6 +14,7 @@ use Rattle.lists.specs.Count.{occ, member, opt}
 use Rattle.lists.specs.Order.{before}
 use Rattle.lists.specs.TestLaws.{clash, by-test, none-some, some-same}
 use Rattle.lists.specs.CountLaws.{occ-append}
+use Rattle.lists.specs.TableLaws.{getD-fill}
 use Rattle.rules.specs.Sizes.{maxTasks, granted}
 use Rattle.rules.specs.Levels.{mutexIn, mutexAwaited, chainOf, linksOf, closesRing, bestWaiter}
 use Rattle.rules.specs.Step.{lock, unlock}
@@ -32,7 +33,7 @@ use Rattle.steps.specs.Machine.{single, settled, dispatched, woke, block
 use Rattle.record.specs.PackLaws.{levelColumn, packWith}
 use Rattle.record.specs.ReadLaws.{owner-read}
 use Rattle.record.specs.ColumnLaws.{chosen, skipped}
-use Rattle.steps.specs.FlagLaws.{flag-one, zeros, single-flags}
+use Rattle.steps.specs.FlagLaws.{flag-one, single-flags}
 use Rattle.steps.specs.WaitLaws.{best-mutex, chain-pack}
 use Rattle.steps.specs.EffectLaws.{member-ended, woke-pack, blocked-pack}
 use Rattle.steps.specs.ObjectLaws.{owner-set, level-same, lends-give}
@@ -150,7 +151,7 @@ module _ (s : Model) (I : Inv s) where
         ∙ settled-finish s I (placed (withTables s (beginWait (s .tables) r (waitFor (mutexOf m) t))) none (s .ready)) []
         (facts-begin (s .tables) r (waitFor (mutexOf m) t) (caller-in s I r run) (caller-idle s I r run) (o, e) (left-mutex m t valid now) (λ k q. rw (same-mutex q) clear) (I .facts)) refl
         (λ i. omega (arith, I .places i, occ-append i (s .tables .waiting) (r ∷ []), ap (λ x. occ i (opt x)) run)) (I .ascending)
-        (replicate maxTasks 0) (λ i. ap (λ x. eqb x 1) (zeros maxTasks i))
+        (replicate maxTasks 0) (λ i. ap (λ x. eqb x 1) (getD-fill 0 maxTasks i))
 
     lock-rest : (o : Option ℕ) → ownerOf (s .tables) m ≡ o
         → cond (eqb (idOf o) noId) (accept (withMutexes (pack s) (ownerSet ((pack s) .mutexes) m ((pack s) .running))) 0 0) (lockWaits (pack s) m t)

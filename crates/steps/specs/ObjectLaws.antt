@@ -16,8 +16,7 @@ use Rattle.lists.specs.TableLaws.{snoc-default, snoc-last, length-snoc, length-
 use Rattle.chains.specs.Least.{leastLeading}
 use Rattle.rules.specs.Sizes.{maxTasks, maxMutexes, maxSemaphores, levels}
 use Rattle.rules.specs.Levels.{mutexIn, mutexAwaited, andThen, heirOf, lends, levelIn}
-use Rattle.rules.specs.Step.{level, outcome}
-use Rattle.rules.specs.Effect.{addTask, addMutex, addSem, give, setCount, beginWait, endWaits, due, age, ageAll}
+use Rattle.rules.specs.Effect.{addTask, addMutex, addSem, give, setCount, beginWait, endWaits, age, ageAll}
 use Rattle.rules.specs.Invariant.{Facts}
 use Rattle.rules.specs.FactsLaws.{wait-ended}
 use Rattle.rules.specs.WaiterLaws.{level-alone}
@@ -25,46 +24,33 @@ use Rattle.rules.specs.CreationLaws.{facts-addTask}
 use Rattle.queues.specs.Queue.{noId, idOf}
 use Rattle.record.specs.Record.{kindCode, objectCode, timedCode, dueCode, packTasks, packMutexes, packSemaphores}
 use Rattle.steps.specs.Machine.{ownerSet, countSet, taskAdded, mutexAdded, semAdded}
+use Rattle.record.specs.PackLaws.{same-tasks, same-mutexes, same-semaphores}
 use Rattle.record.specs.ColumnLaws.{chosen, pad-default, map-set, map-snoc}
-use Rattle.record.specs.declared.Tasks.{Tasks}  -- keep
-use Rattle.record.specs.declared.Mutexes.{Mutexes}  -- keep
-use Rattle.record.specs.declared.Semaphores.{Semaphores}  -- keep
 use Rattle.rules.specs.Tables.{Tables, Wait, tasks, mutexes, semaphores, priorityOf, waitOf, ownerOf}  -- keep
-
-same-mutexes : {k k′ o o′ : List ℕ} {n n′ : ℕ} → k ≡ k′ → o ≡ o′ → n ≡ n′ → _≡_ {A = Mutexes} (record { kind = k; owner = o; n = n }) (record { kind = k′; owner = o′; n = n′ })
-same-mutexes e f g = rw (e, f, g) refl
-
-same-semaphores : {c c′ m m′ : List ℕ} {n n′ : ℕ} → c ≡ c′ → m ≡ m′ → n ≡ n′ → _≡_ {A = Semaphores} (record { count = c; maximum = m; n = n }) (record { count = c′; maximum = m′; n = n′ })
-same-semaphores e f g = rw (e, f, g) refl
-
-same-tasks : {d d′ p p′ l l′ o o′ w w′ b b′ m m′ : List ℕ} {n n′ : ℕ} → d ≡ d′ → p ≡ p′ → l ≡ l′ → o ≡ o′ → w ≡ w′ → b ≡ b′ → m ≡ m′ → n ≡ n′
-    → _≡_ {A = Tasks} (record { due = d; priority = p; level = l; outcome = o; wait = w; object = b; timed = m; n = n })
-    (record { due = d′; priority = p′; level = l′; outcome = o′; wait = w′; object = b′; timed = m′; n = n′ })
-same-tasks e f g h i j k x = rw (e, f, g, h, i, j, k, x) refl
 
 module _ (t : Tables) (F : Facts t) where
   pub owner-set : (m : ℕ) (o : Option ℕ) → m < mutexes t → ownerSet (packMutexes t) m (idOf o) ≡ packMutexes (give t m o)
   unfolding ownerSet packMutexes
   owner-set m o h = chosen _ _ _ (lt-ltb m maxMutexes (omega (arith, F .few-mutexes)))
-      ∙ same-mutexes refl (pad-set maxMutexes noId (map idOf (t .owners)) m (idOf o) (omega (arith, length-map (t .owners) idOf)) ∙ ap (pad maxMutexes noId) (sym (map-set idOf (t .owners) m o)))
+      ∙ same-mutexes _ _ refl (pad-set maxMutexes noId (map idOf (t .owners)) m (idOf o) (omega (arith, length-map (t .owners) idOf)) ∙ ap (pad maxMutexes noId) (sym (map-set idOf (t .owners) m o)))
       (sym (length-set (t .owners) m o))
 
   pub count-set : (k v : ℕ) → k < semaphores t → countSet (packSemaphores t) k v ≡ packSemaphores (setCount t k v)
   unfolding countSet packSemaphores
   count-set k v h = chosen _ _ _ (lt-ltb k maxSemaphores (omega (arith, F .few-semaphores)))
-      ∙ same-semaphores (pad-set maxSemaphores 0 (t .counts) k v h) refl (sym (length-set (t .counts) k v))
+      ∙ same-semaphores _ _ (pad-set maxSemaphores 0 (t .counts) k v h) refl (sym (length-set (t .counts) k v))
 
   pub mutex-added : (q : ℕ) → mutexes t < maxMutexes → mutexAdded (packMutexes t) q ≡ packMutexes (addMutex t q)
   unfolding mutexAdded packMutexes idOf
   mutex-added q h = chosen _ _ _ (lt-ltb (mutexes t) maxMutexes h)
-      ∙ same-mutexes (ap (λ i. set (pad maxMutexes 0 (t .kinds)) i q) (sym (F .kind-column)) ∙ pad-snoc maxMutexes 0 (t .kinds) q (omega (arith, F .kind-column)))
+      ∙ same-mutexes _ _ (ap (λ i. set (pad maxMutexes 0 (t .kinds)) i q) (sym (F .kind-column)) ∙ pad-snoc maxMutexes 0 (t .kinds) q (omega (arith, F .kind-column)))
       (sym (ap (pad maxMutexes noId) (map-snoc idOf (t .owners) none) ∙ pad-default maxMutexes noId (map idOf (t .owners)) (omega (arith, length-map (t .owners) idOf))))
       (sym (length-append (t .owners) (none ∷ [])))
 
   pub sem-added : (count max : ℕ) → semaphores t < maxSemaphores → semAdded (packSemaphores t) count max ≡ packSemaphores (addSem t count max)
   unfolding semAdded packSemaphores
   sem-added count max h = chosen _ _ _ (lt-ltb (semaphores t) maxSemaphores h)
-      ∙ same-semaphores (pad-snoc maxSemaphores 0 (t .counts) count h)
+      ∙ same-semaphores _ _ (pad-snoc maxSemaphores 0 (t .counts) count h)
       (ap (λ i. set (pad maxSemaphores 0 (t .maxima)) i max) (sym (F .maximum-column)) ∙ pad-snoc maxSemaphores 0 (t .maxima) max (omega (arith, F .maximum-column)))
       (sym (length-append (t .counts) (count ∷ [])))
 
@@ -143,6 +129,6 @@ module _ (t : Tables) (F : Facts t) (silent : (i : ℕ) → waitOf t i ≡ none)
   pub task-added : (c : ℕ) → taskAdded (packTasks t c) p ≡ packTasks (addTask t p) c
   unfolding taskAdded packTasks kindCode objectCode timedCode dueCode
   task-added c = chosen _ _ _ (lt-ltb (tasks t) maxTasks room)
-      ∙ same-tasks (code-added (dueCode c) refl) (pad-snoc maxTasks 0 (t .priorities) p room) level-added
+      ∙ same-tasks _ _ (code-added (dueCode c) refl) (pad-snoc maxTasks 0 (t .priorities) p room) level-added
       (sym (pad-default maxTasks 0 (t .outcomes) (omega (arith, F .outcome-column)))) (code-added kindCode refl) (code-added objectCode refl) (code-added timedCode refl)
       (sym (length-append (t .priorities) (p ∷ [])))

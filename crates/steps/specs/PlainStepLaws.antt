@@ -11,7 +11,7 @@ use borrow.Author.Tests.{ltb-false, leb-false, eqb-false}
 use Rattle.lists.specs.Count.{occ, opt}
 use Rattle.lists.specs.Order.{insertTail}
 use Rattle.lists.specs.TestLaws.{clash, or-none}
-use Rattle.lists.specs.CountLaws.{in-below, below-le, pigeonhole}
+use Rattle.lists.specs.CountLaws.{below-le, pigeonhole}
 use Rattle.lists.specs.TableLaws.{length-snoc, getD-pad}
 use Rattle.rules.specs.Sizes.{maxTasks, maxMutexes, maxSemaphores, levels, kinds}
 use Rattle.rules.specs.Levels.{levelIn}
@@ -22,7 +22,7 @@ use Rattle.rules.specs.Refusal.{refusals}
 use Rattle.rules.specs.Invariant.{Inv}
 use Rattle.rules.specs.SettleLaws.{settled-made}
 use Rattle.rules.specs.WaiterLaws.{wait-none}
-use Rattle.rules.specs.CreationLaws.{facts-addMutex, facts-addSem}
+use Rattle.rules.specs.CreationLaws.{facts-addMutex, facts-addSem, ready-in}
 use Rattle.rules.specs.StepLaws.{caller-in}
 use Rattle.queues.specs.Queue.{noId, queueOf, keyOf, inserted, idOf}
 use Rattle.queues.specs.QueueLaws.{tail-queueOf}
@@ -128,16 +128,13 @@ module _ (s : Model) (I : Inv s) where
     abbrev grown : Tables
     grown = addTask (s .tables) p
 
-    ready-in : (i : ℕ) → 1 ≤ occ i (s .ready) → i < tasks (s .tables)
-    ready-in i m = in-below i (tasks (s .tables)) (omega (arith, I .places i))
-
     ready-short : length (s .ready) ≤ tasks (s .tables)
-    ready-short = pigeonhole (tasks (s .tables)) (s .ready) (λ y. omega (arith, I .places y, below-le y (tasks (s .tables)))) ready-in
+    ready-short = pigeonhole (tasks (s .tables)) (s .ready) (λ y. omega (arith, I .places y, below-le y (tasks (s .tables)))) (ready-in s I)
 
     order : settledReady (tasks grown) (levelOf s) (levelIn grown) (s .ready) (tasks (s .tables) ∷ []) ≡ insertTail (levelIn grown) (tasks (s .tables)) (s .ready)
     order = ap (λ k. settledReady k (levelOf s) (levelIn grown) (s .ready) (tasks (s .tables) ∷ [])) (length-snoc (s .tables .priorities) p)
         ∙ settled-made (tasks (s .tables)) (levelOf s) (levelIn grown) (s .ready)
-        (λ i m. old-level (s .tables) (I .facts) (silent off) p low room i (ready-in i m)) (I .ascending)
+        (λ i m. old-level (s .tables) (I .facts) (silent off) p low room i (ready-in s I i m)) (I .ascending)
 
     lined-up : inserted (queueOf (s .ready)) ((packTasks grown (s .clock)) .level) (p + 1) (tasks (s .tables))
         ≡ queueOf (settledReady (tasks grown) (levelOf s) (levelIn grown) (s .ready) (tasks (s .tables) ∷ []))
