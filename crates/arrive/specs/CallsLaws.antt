@@ -11,7 +11,7 @@ use Rattle.arrive.specs.Arrive.{events, after, arrived, marked}
 use Rattle.arrive.specs.ArriveLaws.{arrived-lines}
 use Rattle.arrive.specs.Calls.{Calls, noCall, calls, pieceCalls, allHanded}
 use Rattle.arrive.specs.Feed.{begunOf, fed, carryAfter}
-use Rattle.arrive.specs.FeedEvents.{of-none, feed-length, feed-on, feed-events, feed-after, last-event}
+use Rattle.arrive.specs.FeedEventLaws.{of-none, feed-length, feed-on, feed-events, feed-after, last-event}
 use Rattle.text.specs.Lines.{lines}
 use Rattle.lists.specs.TestLaws.{which}
 

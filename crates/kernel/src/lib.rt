@@ -41,7 +41,7 @@ fn standing(s: State) -> u8
     NONE
 }
 
-// A refusal that no step gives, 14 or the log's 8: the record stays.
+// A refusal that no step gives: the record stays. The number is 14, or the log's 8; document 01 answers no other from outside a step.
 pub fn stopped(s: State, number: u8) -> Out
     ensures { λ r. ⌜ r ≡ stays s number 0 (standingIn s) ⌝ }
 {

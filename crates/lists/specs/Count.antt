@@ -1,4 +1,4 @@
--- How many times a number stands in a list. "Exactly one place" is then one equation of counts.
+-- How many times a number stands in a list. Exactly one place is then one equation of counts.
 use mathlib.Core.List.{List, [], _∷_}
 use mathlib.Core.Bool.{Bool, cond}
 use mathlib.Core.Option.{Option, none, some}

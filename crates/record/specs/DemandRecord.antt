@@ -67,7 +67,7 @@ unfoldable pub eventsRecord : State → List Call → List Event
 eventsRecord k [] = []
 eventsRecord k (c ∷ cs) =
     let o = callRecord k c in
-    record { made = c .made; number = numberOf (o .answer); value = valueOf (o .answer); run = taskAt (runOf (o .answer)) } ∷ eventsRecord (o .state) cs
+    record { made = c .made; number = numberOf (o .answer); run = taskAt (runOf (o .answer)) } ∷ eventsRecord (o .state) cs
 
 unfoldable pub afterRecord : State → List Call → State
 afterRecord k [] = k

@@ -24,7 +24,7 @@ use Rattle.record.specs.StepRecord.{stepFor, numberOf, valueOf, runOf, a
 use Rattle.record.specs.DemandRecord.{freshRecord}
 use Rattle.record.specs.declared.State.{State}  -- keep
 use Rattle.record.specs.declared.Request.{Request}  -- keep
-use Rattle.record.specs.declared.Request.the-variants.{Task, Mutex, Sem, Start, Lock, Pend, Post, Flush, Sleep, Yield, Hold, Free, Tick, Level, Outcome}  -- keep
+use Rattle.record.specs.declared.Request.the-variants.{Task, Mutex, Sem, Start, Lock, Unlock, Pend, Post, Flush, Sleep, Yield, Hold, Free, Tick, Level, Outcome}  -- keep
 use Rattle.rules.specs.State.{fresh, withClock, withHold}  -- keep
 use Prim.Native.String.{String}  -- keep
 use Rattle.rules.specs.Answer.{decide, stepSound}  -- keep
@@ -241,6 +241,47 @@ edgeTable =
     gets (Sleep 0) 7 0 (some 0) ∷
     gets (Sleep 2147483648) 7 0 (some 0) ∷
     gets (Sleep 2147483647) 1 0 none ∷
+    []) ∷
+    -- "ready tasks whose level changed go, by ascending id, to the tail of their new level; newly ready tasks go, by ascending id, to the tail
+    -- of theirs": at the last tick task 2 falls to level 5, where task 1 stands, and task 0 wakes
+    edge "order" freshRecord 3 (
+    gets (Task 5) 0 0 none ∷
+    gets (Task 5) 0 1 none ∷
+    gets (Task 5) 0 2 none ∷
+    gets (Task 3) 0 3 none ∷
+    gets (Task 1) 0 4 none ∷
+    gets (Mutex 1) 0 0 none ∷
+    gets Start 0 0 (some 4) ∷
+    gets (Sleep 1) 1 0 (some 3) ∷
+    gets (Sleep 1) 1 0 (some 0) ∷
+    gets (Sleep 3) 1 0 (some 1) ∷
+    gets Yield 0 0 (some 2) ∷
+    gets (Lock 0 0) 0 0 (some 2) ∷
+    gets Tick 0 0 (some 4) ∷
+    gets (Sleep 1) 1 0 (some 3) ∷
+    gets (Lock 0 2) 1 1 (some 2) ∷
+    gets Tick 0 0 (some 4) ∷
+    gets Tick 0 0 (some 4) ∷
+    gets (Outcome 3) 0 20 (some 4) ∷
+    gets (Level 2) 0 5 (some 4) ∷
+    gets (Sleep 9) 1 0 (some 3) ∷
+    gets (Sleep 9) 1 0 (some 1) ∷
+    gets (Sleep 9) 1 0 (some 2) ∷
+    gets (Sleep 9) 1 0 (some 0) ∷
+    []) ∷
+    -- "ownership passes to the best waiter, which becomes ready with outcome 0"
+    edge "unlock" freshRecord 1 (
+    gets (Task 5) 0 0 none ∷
+    gets (Task 3) 0 1 none ∷
+    gets (Mutex 1) 0 0 none ∷
+    gets Start 0 0 (some 1) ∷
+    gets (Sleep 1) 1 0 (some 0) ∷
+    gets (Lock 0 0) 0 0 (some 0) ∷
+    gets Tick 0 0 (some 1) ∷
+    gets (Lock 0 9) 1 1 (some 0) ∷
+    gets (Outcome 1) 0 1 (some 0) ∷
+    gets (Unlock 0) 0 0 (some 1) ∷
+    gets (Outcome 1) 0 0 (some 1) ∷
     []) ∷
     []
 

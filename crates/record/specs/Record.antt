@@ -22,7 +22,7 @@ use Rattle.record.specs.declared.Semaphores.{Semaphores}  -- keep
 use Rattle.rules.specs.State.{State as Model}  -- keep
 use Rattle.rules.specs.Tables.{Tables, Wait, Awaited, mutexOf, semOf, time}  -- keep
 
--- "wrapping subtract gives ticks left", "wrapping add makes due times"
+-- "Wrapping add steps the clock and makes due times; wrapping subtract gives ticks left for each timed wait."
 abbrev pub ticksLeft : ℕ → ℕ → ℕ
 ticksLeft due clock = (due + wordSize - clock) % wordSize
 

@@ -13,7 +13,7 @@ use Rattle.record.specs.declared.Answer.{Answer}  -- keep
 use Rattle.record.specs.declared.Answer.the-variants.{Accepted, Refused}  -- keep
 use Rattle.record.specs.declared.Request.{Request}  -- keep
 use Rattle.record.specs.declared.Request.the-variants.{Task, Mutex, Sem, Start, Lock, Unlock, Pend, Post, Flush, Sleep, Yield, Hold, Free, Tick, Level, Outcome}  -- keep
-use Rattle.rules.specs.Answer.{Answer as Ruled, stepSound, malformed}  -- keep
+use Rattle.rules.specs.Answer.{Answer as Ruled, stepSound}  -- keep
 
 -- the step that a request stands for
 unfoldable pub stepFor : Request → Step

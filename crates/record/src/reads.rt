@@ -10,7 +10,7 @@ use crate::Semaphores;
 use crate::TASKS;
 use crate::Tasks;
 
-// "Wrapping subtract gives ticks left for each timed wait."
+// "wrapping subtract gives ticks left for each timed wait"
 pub fn ticks_left(due: u32, clock: u32) -> u32
     ensures { λ r. ⌜ r ≡ ticksLeft due clock ⌝ }
 {

@@ -235,7 +235,7 @@ module _ (h : Told) where
   finish-named before e A d b = by-test Named (e .state .started) (λ q. meet-named (settle (levelOf before) (e .state) (e .woken)) A d b _ _) (λ q. placed-named (e .state) A d b _ _)
 
 abbrev pub eventOf : Step → Answer → Event
-eventOf x a = record { made = x; number = a .number; value = a .value; run = a .run }
+eventOf x a = record { made = x; number = a .number; run = a .run }
 
 module _ (s : State) (h : Told) (I : Inv s) (A : Agrees s h) where
   abbrev AsTold : Step → Answer → Type 0

@@ -1,4 +1,5 @@
--- Demand 3, as a statement: what holds after any list of calls from a fresh state with an accepted start. DemandLaws proves it.
+-- Demand 3, as a statement: what holds after any list of calls from a fresh state with an accepted start. DemandLaws proves it. The quotes at
+-- `MostUrgent`, `no-ring`, `runs` and `urgent` are the demand's own words, the others document 01's.
 use mathlib.Core.Path.{_≡_}
 use mathlib.Core.List.{List, [], _∷_}
 use mathlib.Core.Bool.{true}
@@ -73,7 +74,7 @@ unfoldable pub events : State → List Call → List Event
 events s [] = []
 events s (c ∷ cs) =
     let a = call s c in
-    record { made = c .made; number = a .number; value = a .value; run = a .run } ∷ events (a .state) cs
+    record { made = c .made; number = a .number; run = a .run } ∷ events (a .state) cs
 
 unfoldable pub after : State → List Call → State
 after s [] = s

@@ -14,11 +14,10 @@ use Rattle.rules.specs.Levels.{mutexIn, andThen, sameAwaited}
 use Rattle.rules.specs.Step.{Step, task, mutex, sem, start, lock, unlock, pend, post, flush, sleep, yield, hold, free, tick, level, outcome}
 use Rattle.rules.specs.Refusal.{ofCaller}
 
--- an event: the step, the answer's number and value, and the task to run
+-- an event: the step, the answer's number, and the task to run
 pub record Event : Type 0 where
   pub made : Step
   pub number : ℕ
-  pub value : ℕ
   pub run : Option ℕ
 
 -- a wait as the list tells it: what for, the time it began with, and the accepted ticks since

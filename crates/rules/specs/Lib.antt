@@ -24,3 +24,4 @@ pub mod Demand
 pub mod RefusalLaws
 pub mod AgreeLaws
 pub mod DemandLaws
+pub mod OutcomeLaws

@@ -1,6 +1,6 @@
 -- "Numbers that come back": for each step the rows of the table that concern it, in the table's order; the first that applies is given.
 use mathlib.Core.List.{List, [], _∷_}
-use mathlib.Core.Bool.{Bool, false, cond, not}
+use mathlib.Core.Bool.{Bool, true, false, cond, not}
 use mathlib.Core.Option.{Option, none, some}
 use Prim.Native.Nat.{ℕ}
 use lib.Dec.{ltb, leb, eqb}
@@ -97,3 +97,9 @@ firstRow (r ∷ rs) = cond (r .when) (some r) (firstRow rs)
 -- "Order where several apply: 14, 15, 4, 5, 6, 7, 8 (full table), 9, 10, 3, 11, 12; then 2 and 13"; 14 and 15 come before any row
 abbrev pub tableOrder : List ℕ
 tableOrder = 4 ∷ 5 ∷ 6 ∷ 7 ∷ 8 ∷ 9 ∷ 10 ∷ 3 ∷ 11 ∷ 12 ∷ 2 ∷ 13 ∷ []
+
+-- the first list is a part of the second, in the second's order
+unfoldable pub inOrder : List ℕ → List ℕ → Bool
+inOrder [] l = true
+inOrder (x ∷ xs) [] = false
+inOrder (x ∷ xs) (y ∷ l) = cond (eqb x y) (inOrder xs l) (inOrder (x ∷ xs) l)

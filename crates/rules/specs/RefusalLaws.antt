@@ -22,7 +22,7 @@ use Rattle.rules.specs.State.{State, placed, levelOf}
 use Rattle.rules.specs.Step.{Step, task, mutex, sem, start, lock, unlock, pend, post, flush, sleep, yield, hold, free, tick, level, outcome}
 use Rattle.rules.specs.Effect.{Effect, done, callerWaits, lockBy, passOn, pendBy, credit, flushOf, tickOf, yieldBy, called, effect}
 use Rattle.rules.specs.Settle.{settle, meet, dispatch, finish}
-use Rattle.rules.specs.Refusal.{Row, held, ofCaller, taken, noCredit, refusals, firstRow, tableOrder}
+use Rattle.rules.specs.Refusal.{Row, held, ofCaller, taken, noCredit, refusals, firstRow, tableOrder, inOrder}
 use Rattle.rules.specs.Sound.{soundb}
 use Rattle.rules.specs.Answer.{Answer, answered, decide, stepSound, standing, stopped, step}
 use Rattle.rules.specs.Log.{logLine, withRoom, memoryAfter, Call, inRoom, call}
@@ -30,12 +30,6 @@ use Rattle.rules.specs.Invariant.{Inv}
 use Rattle.rules.specs.SettleLaws.{settled-one}
 use Rattle.rules.specs.StepLaws.{passed, held-runs, caller-in}
 use Rattle.rules.specs.SoundLaws.{inv-sound}
-
--- the first list is a part of the second, in the second's order
-unfoldable pub inOrder : List ℕ → List ℕ → Bool
-inOrder [] l = true
-inOrder (x ∷ xs) [] = false
-inOrder (x ∷ xs) (y ∷ l) = cond (eqb x y) (inOrder xs l) (inOrder (x ∷ xs) l)
 
 -- each step's rows stand in the order of the table
 pub refusals-in-order : (s : State) (x : Step) → inOrder (map (λ r. r .number) (refusals s x)) tableOrder ≡ true

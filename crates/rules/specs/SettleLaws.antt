@@ -8,13 +8,13 @@ use Prim.Native.Nat.{ℕ, suc, _+_, _≤_, _<_}
 use native.Mathlib.Omega.{arith}
 use native.Mathlib.Decide.{ℕ-discrete}
 use lib.Dec.{ltb, leb, eqb}
-use borrow.Author.Tests.{ltb-true, ltb-false, lt-ltb, le-ltb, eq-eqb}
+use borrow.Author.Tests.{ltb-true, ltb-false, eqb-true, lt-ltb, le-ltb, eq-eqb}
 use Rattle.lists.specs.Test.{_and_}
 use Rattle.lists.specs.Count.{occ, member, below, opt}
-use Rattle.lists.specs.Order.{keep, byId, place, insertTail, insertHead, stable, Asc}
+use Rattle.lists.specs.Order.{keep, byId, place, insertTail, insertHead, insertAll, stable, Asc}
 use Rattle.lists.specs.TestLaws.{which, clash, by-test, and-r, true-and, and-false, some-same}
 use Rattle.lists.specs.CountLaws.{eqn-other, occ-append, occ-head}
-use Rattle.lists.specs.OrderLaws.{occ-place, asc-first, asc-insertHead, asc-stable, occ-stable, stable-asc, stable-snoc, keep-all, occ-byId, occ-split, asc-change, byId-none, byId-one}
+use Rattle.lists.specs.OrderLaws.{insertAll-append, keep-in, asc-keep, occ-place, asc-first, asc-insertHead, asc-stable, occ-stable, stable-asc, stable-snoc, keep-all, occ-byId, occ-split, asc-change, byId-none, byId-one}
 use Rattle.rules.specs.Sizes.{wordSize, maxHold}
 use Rattle.rules.specs.Tables.{tasks}
 use Rattle.rules.specs.State.{State, placed, levelOf}
@@ -42,6 +42,30 @@ occ-settled n old new ready woken i h k =
       occ-split i n same ready h,
       occ-byId i n woken k,
     )
+
+-- "ready tasks whose level changed go, by ascending id, to the tail of their new level; newly ready tasks go, by ascending id, to the tail of
+-- theirs": the others stay as they stood, then come the moved ones, one after another, and then those that became ready
+pub settled-order : (n : ℕ) (old new : ℕ → ℕ) (ready woken : List ℕ) → Asc old ready
+    → settledReady n old new ready woken
+    ≡ insertAll new (byId n (λ i. member i woken))
+    (insertAll new (byId n (λ i. not (eqb (new i) (old i)) and member i ready)) (keep (λ i. eqb (new i) (old i)) ready))
+unfolding settledReady stable
+settled-order n old new ready woken a =
+    insertAll-append new (keep same ready) (moved ++ came) []
+    ∙ (insertAll-append new moved came (insertAll new (keep same ready) [])
+    ∙ ap (λ l. insertAll new came (insertAll new moved l)) (stable-asc new (keep same ready) kept))
+  where
+    same : ℕ → Bool
+    same i = eqb (new i) (old i)
+
+    moved : List ℕ
+    moved = byId n (λ i. not (same i) and member i ready)
+
+    came : List ℕ
+    came = byId n (λ i. member i woken)
+
+    kept : Asc new (keep same ready)
+    kept = asc-change old new (keep same ready) (λ y m. sym (eqb-true (new y) (old y) (keep-in same y ready m .0))) (asc-keep old same ready a)
 
 -- where no ready task's level changed, only those that became ready move
 settled-unchanged : (n : ℕ) (old new : ℕ → ℕ) (ready woken : List ℕ) → ((i : ℕ) → 1 ≤ occ i ready → new i ≡ old i)
@@ -98,7 +122,7 @@ equal-stays s r x l h = rw (off (eqb (s .hold) 0)) refl
     off true = le-ltb (levelOf s x) (levelOf s r) h
     off false = refl
 
--- "the displaced task goes to the head of its level": who stands before it is more urgent
+-- "the displaced task goes to the head of its level": before the first that is not more urgent
 pub displaced-to-head : (s : State) (r x : ℕ) (l : List ℕ) → s .hold ≡ 0 → levelOf s x < levelOf s r
     → meet s (some r) (x ∷ l) ≡ placed s (some x) (place (λ y. leb (levelOf s r) (levelOf s y)) r l)
 unfolding meet insertHead

@@ -7,16 +7,16 @@ use mathlib.Core.Option.{Option, none, some}
 use Prim.Native.Nat.{ℕ, _+_, _≤_}
 use native.Mathlib.Omega.{arith}
 use lib.Dec.{leb}
-use lib.ListN.{length, length-append}
+use lib.ListN.{length, drop, length-append}
 use Rattle.lists.specs.TestLaws.{which, and-r}
 use Rattle.decimal.specs.Decimal.{decimal}
 use Rattle.decimal.specs.DecimalLaws.{decimal-length}
-use Rattle.text.specs.Place.{room, putAnswer}
+use Rattle.text.specs.Place.{room, putAnswer, putBytes}
 use Rattle.text.specs.declared.place.Put.the-variants.{Next, Full}
 use Rattle.rules.specs.Step.{Step}
 use Rattle.text.specs.Fields.{tab}
 use Rattle.text.specs.Lines.{lf}
-use Rattle.rules.specs.Log.{runField, logLine}
+use Rattle.rules.specs.Log.{runField, logLine, memoryAfter}
 use Rattle.walks.specs.Walk.{taskAt}
 use Rattle.rules.specs.Answer.{standing, malformed}
 use Rattle.rules.specs.Sound.{soundb}
@@ -33,7 +33,7 @@ use Rattle.syntax.specs.Form.{sameBytes, stepOn}
 use Rattle.syntax.specs.LogLine.{lineBytes, headerBytes, logBytes, badBytes}
 use Rattle.syntax.specs.Reading.{readingFor}
 use Rattle.syntax.specs.declared.read.Reading.the-variants.{Made, Malformed}
-use Rattle.script.specs.LineRun.{awaiting, running, over, answered, lineFor, ranWith, reported, ranLine, headLog, headStage, headed}
+use Rattle.script.specs.LineRun.{awaiting, running, over, answered, lineFor, ranWith, reported, ranLine, memoryLine, headLog, headStage, headed}
 use Rattle.script.specs.Pieces.{lineRoom}
 use Rattle.script.specs.declared.run.Ran.{Ran}
 
@@ -70,6 +70,12 @@ module _ (k : State) (line memory : List ℕ) where
   step-call x is = rw is (either (room memory 0 (lineFor ((stepOf k (requestFor x)) .answer))) (stepOf k (requestFor x)) (stays k 8 0 (standingIn k)) _ _
       ∙ ap (λ l. cond (room memory 0 l) (stepOf k (requestFor x)) (stays k 8 0 (standingIn k))) (line-ruled (stepOf k (requestFor x)))
       ∙ ap (λ n. cond (leb n (length memory)) (stepOf k (requestFor x)) (stays k 8 0 (standingIn k))) (from-front (logLine (readOut (stepOf k (requestFor x))))))
+
+  -- the lent memory is as the rules leave it
+  pub memory-ruled : memoryLine k line memory ≡ memoryAfter (readOut (answered k (stepOn line))) memory
+  unfolding memoryLine memoryAfter putBytes
+  memory-ruled = ap (λ l. cond (leb (0 + length l) (length memory)) (l ++ drop (0 + length l) memory) memory) (line-ruled (answered k (stepOn line)))
+      ∙ ap (λ n. cond (leb n (length memory)) (logLine (readOut (answered k (stepOn line))) ++ drop n memory) memory) (from-front (logLine (readOut (answered k (stepOn line)))))
 
   -- a malformed line changes nothing
   pub malformed-stays : stepOn line ≡ none → (ranLine k line memory) .state ≡ k

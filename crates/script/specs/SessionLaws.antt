@@ -13,7 +13,7 @@ use Rattle.lists.specs.TestLaws.{which, clash, by-test}
 use Rattle.arrive.specs.Arrive.{Event, Line}
 use Rattle.arrive.specs.Calls.{calls, noCall, behindEvents}
 use Rattle.arrive.specs.Feed.{fed, carryAfter, lineOf, eventsOf, lastFound}
-use Rattle.arrive.specs.FeedEvents.{feed-on}
+use Rattle.arrive.specs.FeedEventLaws.{feed-on}
 use Rattle.arrive.specs.declared.Fed.{Fed}
 use Rattle.arrive.specs.declared.Found.{Found}
 use Rattle.arrive.specs.declared.Found.the-variants as found

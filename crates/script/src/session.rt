@@ -130,7 +130,9 @@ pub fn begin() -> Session
     }
 }
 
-// A piece of the script, with lent memory for the log lines of the lines that end in it.
+// A piece of the script, with lent memory for the log lines of the lines that end in it. The caller lends a carry of LONGEST bytes and 33 bytes
+// of log for each byte of the piece. A line longer than the carry is answered 14. A line whose log line has no room is passed over: its
+// step isn't made (the log's 8), or, where it is the first line, the next one is taken for it; only `written` shows it.
 pub fn arrive(session: Session, carry: &mut [u8], bytes: &[u8], log: &mut [u8]) -> Moved
     ensures answer { λ r. ⌜ r ≡ movedTo (pieceRun session (now (carry .entry)) (now (bytes .entry)) (now (log .entry))) ⌝ }
     ensures carried { λ r. ⌜ now (carry .exit) ≡ pieceRun session (now (carry .entry)) (now (bytes .entry)) (now (log .entry)) .carry ⌝ }
@@ -180,7 +182,7 @@ fn take_last(s: State, stage: u8, carry: &[u8], held: usize, log: &mut [u8]) -> 
     take_found(s, stage, carry, none, found, log)
 }
 
-// The end of the script, with lent memory for one log line.
+// The end of the script, with lent memory for one log line: 33 bytes. With less a last line without LF can be passed over, as in `arrive`.
 pub fn end(session: Session, carry: &[u8], log: &mut [u8]) -> Moved
     ensures answer { λ r. ⌜ r ≡ endTo (endRun session (now (carry .entry)) (now (log .entry))) ⌝ }
     ensures memory { λ r. ⌜ now (log .exit) ≡ endRun session (now (carry .entry)) (now (log .entry)) .memory ⌝ }

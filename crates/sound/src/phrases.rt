@@ -209,7 +209,7 @@ fn places_in(s: State) -> bool
     true
 }
 
-// "No ring of waits."
+// "no ring of waits"
 fn no_ring(s: State) -> bool
     ensures { λ r. ⌜ r ≡ ringless s ⌝ }
 {
@@ -217,7 +217,7 @@ fn no_ring(s: State) -> bool
     walks::all_end(&next, s.tasks.n)
 }
 
-// "Stored levels as defined."
+// "stored levels as defined"
 fn levels_in(s: State) -> bool
     ensures { λ r. ⌜ r ≡ levelsIn s ⌝ }
 {

@@ -172,7 +172,7 @@ fn queue_tidy(q: Queue) -> bool
     queue_checks::rest_empty(q)
 }
 
-// "Unused table places as in the fresh state", and absent fields too.
+// "unused table places as in the fresh state", and absent fields too
 pub fn tidy(s: State) -> bool
     ensures { λ r. ⌜ r ≡ tidyb s ⌝ }
 {

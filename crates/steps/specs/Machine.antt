@@ -21,6 +21,8 @@ use Rattle.record.specs.declared.Semaphores.{Semaphores}  -- keep
 use Rattle.queues.specs.declared.Queue.{Queue}  -- keep
 use Rattle.record.specs.declared.Out.{Out}  -- keep
 use Rattle.record.specs.declared.Answer.the-variants.{Accepted, Refused}  -- keep
+use Rattle.record.specs.declared.Request.{Request}  -- keep
+use Rattle.record.specs.declared.Request.the-variants.{Task, Mutex, Sem, Start, Lock, Unlock, Pend, Post, Flush, Sleep, Yield, Hold, Free, Tick, Level, Outcome}  -- keep
 use Rattle.record.specs.Setters.{withTasks, withSemaphores, withClock, withMutexes, withReady, withWaiting, withStarted, withHold, withRunning, withLevel}
 use Rattle.record.specs.Reads.{ownerAt, nextAt, newLevels, countAt, maximumAt, firstId}
 
@@ -290,3 +292,22 @@ levelStep k i = cond (leb (k .tasks .n) i) (refuse k 6 0) (accept k 0 (keyOf (k 
 
 unfoldable pub outcomeStep : State → ℕ → Out
 outcomeStep k i = cond (leb (k .tasks .n) i) (refuse k 6 0) (accept k 0 (keyOf (k .tasks .outcome) i))
+
+-- the step for each request
+unfoldable pub machineStep : State → Request → Out
+machineStep k (Task p) = taskStep k p
+machineStep k (Mutex q) = mutexStep k q
+machineStep k (Sem count max) = semStep k count max
+machineStep k Start = startStep k
+machineStep k (Lock m t) = lockStep k m t
+machineStep k (Unlock m) = unlockStep k m
+machineStep k (Pend j t) = pendStep k j t
+machineStep k (Post j) = postStep k j
+machineStep k (Flush j) = flushStep k j
+machineStep k (Sleep t) = sleepStep k t
+machineStep k Yield = yieldStep k
+machineStep k Hold = holdStep k
+machineStep k Free = freeStep k
+machineStep k Tick = tickStep k
+machineStep k (Level i) = levelStep k i
+machineStep k (Outcome i) = outcomeStep k i

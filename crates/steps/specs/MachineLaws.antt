@@ -5,7 +5,7 @@ use Rattle.rules.specs.Invariant.{Inv}
 use Rattle.record.specs.Record.{view, pack}
 use Rattle.record.specs.SoundRecord.{soundOf}
 use Rattle.record.specs.StepRecord.{stepFor, outFor, stepOf}
-use Rattle.steps.specs.Machine.{taskStep, mutexStep, semStep, startStep, lockStep, unlockStep, pendStep, postStep, flushStep, sleepStep, yieldStep, holdStep, freeStep, tickStep, levelStep, outcomeStep}
+use Rattle.steps.specs.Machine.{machineStep}
 use Rattle.record.specs.GoodRecord.{Typed}
 use Rattle.record.specs.SoundPackLaws.{sound-view, sound-pack}
 use Rattle.record.specs.ColumnLaws.{chosen}
@@ -19,25 +19,6 @@ use Rattle.record.specs.declared.Request.{Request}  -- keep
 use Rattle.record.specs.declared.Request.the-variants.{Task, Mutex, Sem, Start, Lock, Unlock, Pend, Post, Flush, Sleep, Yield, Hold, Free, Tick, Level, Outcome}  -- keep
 use Rattle.rules.specs.State.{State as Model}  -- keep
 use Rattle.rules.specs.Answer.{stepSound}  -- keep
-
--- the step for each request
-unfoldable pub machineStep : State → Request → Out
-machineStep k (Task p) = taskStep k p
-machineStep k (Mutex q) = mutexStep k q
-machineStep k (Sem count max) = semStep k count max
-machineStep k Start = startStep k
-machineStep k (Lock m t) = lockStep k m t
-machineStep k (Unlock m) = unlockStep k m
-machineStep k (Pend j t) = pendStep k j t
-machineStep k (Post j) = postStep k j
-machineStep k (Flush j) = flushStep k j
-machineStep k (Sleep t) = sleepStep k t
-machineStep k Yield = yieldStep k
-machineStep k Hold = holdStep k
-machineStep k Free = freeStep k
-machineStep k Tick = tickStep k
-machineStep k (Level i) = levelStep k i
-machineStep k (Outcome i) = outcomeStep k i
 
 pub step-pack : (s : Model) → Inv s → (x : Request) → machineStep (pack s) x ≡ outFor (stepSound s (stepFor x))
 unfolding machineStep stepFor

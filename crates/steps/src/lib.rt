@@ -7,7 +7,7 @@ mod tables;
 mod waits;
 
 ghost use mathlib.Core.Path.{_≡_};
-ghost use Rattle.steps.specs.MachineLaws.{machineStep};
+ghost use Rattle.steps.specs.Machine.{machineStep};
 use record::Out;
 use record::Request;
 use record::State;

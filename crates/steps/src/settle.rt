@@ -65,7 +65,7 @@ fn displace(s: State, x: u8) -> State
     run(s, x, order)
 }
 
-// "If nobody runs, the first ready task runs"; it displaces a running one only if hold is 0 and it is strictly more urgent.
+// "if nobody runs, the first ready task runs"; it displaces a running one only if hold is 0 and it is strictly more urgent.
 pub fn dispatch(s: State) -> State
     ensures { λ r. ⌜ r ≡ dispatched s ⌝ }
 {

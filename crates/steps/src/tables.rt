@@ -13,7 +13,7 @@ use record::TASKS;
 use record::Tasks;
 use record::reads;
 
-// "Wrapping add steps the clock and makes due times."
+// "Wrapping add steps the clock and makes due times"
 pub fn due_at(clock: u32, ticks: u32) -> u32
     ensures { λ r. ⌜ r ≡ dueAt clock ticks ⌝ }
 {
