@@ -1,4 +1,4 @@
--- The code's own functions over the record, case by case as the code goes. A reader need not believe them: MachineLaws show them equal to the packed rules.
+-- The functions over the record that the steps are made of, case by case as the code goes. MachineLaws shows them, on a sound record, equal to the packed rules.
 use mathlib.Core.List.{List}
 use mathlib.Core.Bool.{Bool, true, cond, not}
 use Prim.Native.Nat.{ℕ, zero, suc, _+_, _-_}

@@ -1,4 +1,4 @@
-// Creation, start, yield, hold and free, tick, level, outcome: the refusals in the order of the table, then what the step does. The record is sound.
+// Creation, start, yield, hold and free, tick, level, outcome: the refusals in the order of the table, then what the step does.
 ghost use mathlib.Core.Path.{_≡_};
 ghost use Rattle.steps.specs.Machine.{taskStep, mutexStep, semStep, startStep, yieldStep, holdStep, freeStep, tickStep, levelStep, outcomeStep};
 use crate::answers;

@@ -1,4 +1,4 @@
-// The tables of the record: waits that begin and end, flags that name tasks, and who leads to whom.
+// The tables of the record: waits that begin and end, and flags that name tasks.
 ghost use mathlib.Core.Path.{_≡_};
 ghost use Prim.Native.Nat.{_<_};
 ghost use Rattle.lists.specs.Table.{filled};

@@ -1,4 +1,4 @@
-// The steps on mutexes and semaphores, and sleep: the refusals in the order of the table, then what the step does. The record is sound.
+// The steps on mutexes and semaphores, and sleep: the refusals in the order of the table, then what the step does.
 ghost use mathlib.Core.Path.{_≡_};
 ghost use Prim.Native.Nat.{_<_};
 ghost use Rattle.steps.specs.Machine.{isTime, waitRefusal, lockStep, lockWaits, passed, unlockStep, pendStep, creditStep, postStep, flushStep, sleepStep};
