@@ -36,7 +36,7 @@ extern "C" {
 /* Priorities and levels go from 0, the most urgent, to this, the least urgent. */
 #define CUNGKALISA_LEAST_URGENT 31
 
-/* No task: as the task to run, as an owner, in an unused place of a queue. */
+/* No task: as the task to run, as an owner, in an unused place of a task list. */
 #define CUNGKALISA_NONE 255
 
 /* A waiting time is 0 (don't wait), 1 to CUNGKALISA_MAX_TICKS ticks, or CUNGKALISA_FOREVER. */
@@ -50,7 +50,7 @@ extern "C" {
 typedef struct {
     uint8_t ids[CUNGKALISA_TASKS];
     uint8_t n;
-} cungkalisa_queue;
+} cungkalisa_task_list;
 
 /* What a task waits for. */
 enum {
@@ -97,8 +97,8 @@ typedef struct {
     cungkalisa_semaphores semaphores;
     uint32_t clock; /* ticks, from 4294967295 to 0 again */
     cungkalisa_mutexes mutexes;
-    cungkalisa_queue ready;   /* ready tasks, the next to run first */
-    cungkalisa_queue waiting; /* waiting tasks, the oldest wait first */
+    cungkalisa_task_list ready;   /* ready tasks, the next to run first */
+    cungkalisa_task_list waiting; /* waiting tasks, the oldest wait first */
     uint8_t started;          /* 0: set-up, 1: started */
     uint8_t hold;             /* how often scheduling is held */
     uint8_t running;          /* the running task, or CUNGKALISA_NONE */

@@ -2,12 +2,12 @@
 
 use crate::kernel::{State, Step, Answer, Object, Wait, Task, Mutex, Semaphore, LONGEST, TASKS};
 
-/// No owner, nothing running, an unused place of a queue.
+/// No owner, nothing running, an unused place of a task list.
 pub const NONE: u8 = 255;
 
 #[repr(C)]
 #[derive(Clone, Debug, Default, PartialEq, Eq)]
-pub struct Queue {
+pub struct TaskList {
     pub ids: [u8; 16],
     pub n: u8,
 }
@@ -50,8 +50,8 @@ pub struct Record {
     pub semaphores: Semaphores,
     pub clock: u32,
     pub mutexes: Mutexes,
-    pub ready: Queue,
-    pub waiting: Queue,
+    pub ready: TaskList,
+    pub waiting: TaskList,
     pub started: u8,
     pub hold: u8,
     pub running: u8,
@@ -107,11 +107,11 @@ pub fn to_record(state: &State) -> Record {
         r.semaphores.maximum[i] = semaphore.maximum;
     }
     r.semaphores.n = state.semaphores.len() as u8;
-    for (queue, order) in [(&mut r.ready, &state.ready), (&mut r.waiting, &state.waiting)] {
+    for (list, order) in [(&mut r.ready, &state.ready), (&mut r.waiting, &state.waiting)] {
         for (place, &i) in order.iter().enumerate() {
-            queue.ids[place] = i as u8;
+            list.ids[place] = i as u8;
         }
-        queue.n = order.len() as u8;
+        list.n = order.len() as u8;
     }
     r.clock = state.clock;
     r.started = state.started as u8;
@@ -123,7 +123,7 @@ pub fn to_record(state: &State) -> Record {
 /// The state of a sound record.
 pub fn from_record(r: &Record) -> State {
     let id = |i: u8| if i == NONE { None } else { Some(i as usize) };
-    let order = |q: &Queue| q.ids[..q.n as usize].iter().map(|&i| i as usize).collect();
+    let order = |q: &TaskList| q.ids[..q.n as usize].iter().map(|&i| i as usize).collect();
     let wait = |i: usize| {
         let object = match (r.tasks.wait[i], r.tasks.object[i] as usize) {
             (0, _) => return None,
@@ -169,7 +169,7 @@ pub fn is_sound(r: &Record) -> bool {
 fn tables_sound(r: &Record) -> bool {
     let (t, m, s) = (&r.tasks, &r.mutexes, &r.semaphores);
     let is_task = |i: u8| i < t.n;
-    let queue = |q: &Queue| {
+    let list = |q: &TaskList| {
         (0..16).all(|at| if at < q.n as usize { is_task(q.ids[at]) } else { q.ids[at] == NONE })
     };
     let mutex = |i: usize| match i < m.n as usize {
@@ -189,7 +189,7 @@ fn tables_sound(r: &Record) -> bool {
     };
     (t.n <= 16 && m.n <= 8 && s.n <= 8 && r.ready.n <= 16 && r.waiting.n <= 16)
         && (r.started <= 1 && (r.running == NONE || is_task(r.running)))
-        && (queue(&r.ready) && queue(&r.waiting))
+        && (list(&r.ready) && list(&r.waiting))
         && ((0..8).all(mutex) && (0..8).all(semaphore) && (0..16).all(task))
 }
 

@@ -45,7 +45,7 @@ fn runs(count: u64, steps: usize, mut check: impl FnMut(&mut Random, &State)) {
 #[test]
 fn layout() {
     assert_eq!((size_of::<Tasks>(), size_of::<Semaphores>()), (164, 68));
-    assert_eq!((size_of::<Mutexes>(), size_of::<Queue>(), size_of::<Record>()), (17, 17, 292));
+    assert_eq!((size_of::<Mutexes>(), size_of::<TaskList>(), size_of::<Record>()), (17, 17, 292));
     assert_eq!((offset_of!(Record, semaphores), offset_of!(Record, clock)), (164, 232));
     assert_eq!((offset_of!(Record, mutexes), offset_of!(Record, ready)), (236, 253));
     assert_eq!((offset_of!(Record, waiting), offset_of!(Record, running)), (270, 289));

@@ -7,46 +7,46 @@ use lib.ListN.{length}
 use Rattle.text.specs.Lines.{lf}
 
 -- what is handed on: a line without its LF, or that a line was longer than the maximum
-pub data Event : Type 0 where
-  Line : List ℕ → Event
-  Long : Event
+pub data Arrival : Type 0 where
+  Line : List ℕ → Arrival
+  Long : Arrival
 
 -- the line that has begun: its bytes so far, or that they are over the maximum already
-pub data Begun : Type 0 where
-  Held : List ℕ → Begun
-  Over : Begun
+pub data Unended : Type 0 where
+  Held : List ℕ → Unended
+  Over : Unended
 
 -- one byte more of the line
-unfoldable pub grown : ℕ → Begun → ℕ → Begun
+unfoldable pub grown : ℕ → Unended → ℕ → Unended
 grown most (Held b) c = cond (ltb (length b) most) (Held (b ++ (c ∷ []))) Over
 grown most Over c = Over
 
 -- the line as it is handed on where it ends
-abbrev pub ended : Begun → Event
-ended (Held b) = Line b
-ended Over = Long
+abbrev pub closed : Unended → Arrival
+closed (Held b) = Line b
+closed Over = Long
 
 -- what is handed on while a text arrives: at each LF the line that ends there, and a new one begins
-unfoldable pub events : ℕ → Begun → List ℕ → List Event
-events most s [] = []
-events most s (c ∷ cs) = cond (eqb c lf) (ended s ∷ events most (Held []) cs) (events most (grown most s c) cs)
+unfoldable pub arrivals : ℕ → Unended → List ℕ → List Arrival
+arrivals most s [] = []
+arrivals most s (c ∷ cs) = cond (eqb c lf) (closed s ∷ arrivals most (Held []) cs) (arrivals most (grown most s c) cs)
 
 -- the line that has begun when it has arrived
-unfoldable pub after : ℕ → Begun → List ℕ → Begun
-after most s [] = s
-after most s (c ∷ cs) = cond (eqb c lf) (after most (Held []) cs) (after most (grown most s c) cs)
+unfoldable pub unendedAfter : ℕ → Unended → List ℕ → Unended
+unendedAfter most s [] = s
+unendedAfter most s (c ∷ cs) = cond (eqb c lf) (unendedAfter most (Held []) cs) (unendedAfter most (grown most s c) cs)
 
 -- what is handed on where nothing follows: a last line without LF counts, and nothing follows a final LF
-unfoldable pub finished : Begun → List Event
+unfoldable pub finished : Unended → List Arrival
 finished (Held []) = []
 finished (Held (c ∷ b)) = Line (c ∷ b) ∷ []
 finished Over = Long ∷ []
 
 -- all that is handed on of a text that arrives in pieces
-unfoldable pub arrived : ℕ → Begun → List (List ℕ) → List Event
+unfoldable pub arrived : ℕ → Unended → List (List ℕ) → List Arrival
 arrived most s [] = finished s
-arrived most s (a ∷ rest) = events most s a ++ arrived most (after most s a) rest
+arrived most s (a ∷ rest) = arrivals most s a ++ arrived most (unendedAfter most s a) rest
 
 -- a line as it is to be handed on: "Lines over 80 bytes without the LF" are over-long at a maximum of 80
-unfoldable pub marked : ℕ → List ℕ → Event
+unfoldable pub marked : ℕ → List ℕ → Arrival
 marked most l = cond (leb (length l) most) (Line l) Long

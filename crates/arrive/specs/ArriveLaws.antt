@@ -11,21 +11,21 @@ use lib.Seq.{append-snoc}
 use borrow.Author.Tests.{le-leb, lt-leb, leb-true, leb-false, ltb-true, ltb-false}
 use Rattle.text.specs.Cut.{upTo, onFirst, pieces}
 use Rattle.text.specs.Lines.{lf, lines}
-use Rattle.arrive.specs.Arrive.{Line, Long, Begun, Held, Over, grown, ended, events, after, finished, arrived, marked}
+use Rattle.arrive.specs.Arrive.{Line, Long, Unended, Held, Over, grown, closed, arrivals, unendedAfter, finished, arrived, marked}
 use Rattle.lists.specs.TestLaws.{which}
 
 module _ (most : ℕ) where
   -- a text in two pieces
-  pub events-append : (s : Begun) (a b : List ℕ) → events most s (a ++ b) ≡ events most s a ++ events most (after most s a) b
-  unfolding events after
-  events-append s [] b = refl
-  events-append s (c ∷ a) b = elim (which (eqb c lf)) [
-    | inl e ↦ rw (e, events-append (Held []) a b)
-    | inr e ↦ rw (e, events-append (grown most s c) a b)
+  pub arrivals-append : (s : Unended) (a b : List ℕ) → arrivals most s (a ++ b) ≡ arrivals most s a ++ arrivals most (unendedAfter most s a) b
+  unfolding arrivals unendedAfter
+  arrivals-append s [] b = refl
+  arrivals-append s (c ∷ a) b = elim (which (eqb c lf)) [
+    | inl e ↦ rw (e, arrivals-append (Held []) a b)
+    | inr e ↦ rw (e, arrivals-append (grown most s c) a b)
   ]
 
-  pub after-append : (s : Begun) (a b : List ℕ) → after most s (a ++ b) ≡ after most (after most s a) b
-  unfolding after
+  pub after-append : (s : Unended) (a b : List ℕ) → unendedAfter most s (a ++ b) ≡ unendedAfter most (unendedAfter most s a) b
+  unfolding unendedAfter
   after-append s [] b = refl
   after-append s (c ∷ a) b = elim (which (eqb c lf)) [
     | inl e ↦ rw (e, after-append (Held []) a b)
@@ -33,15 +33,15 @@ module _ (most : ℕ) where
   ]
 
   -- in any number of pieces
-  pub arrived-flat : (s : Begun) (rest : List (List ℕ)) → arrived most s rest ≡ events most s (flatten rest) ++ finished (after most s (flatten rest))
-  unfolding arrived flatten events after
+  pub arrived-flat : (s : Unended) (rest : List (List ℕ)) → arrived most s rest ≡ arrivals most s (flatten rest) ++ finished (unendedAfter most s (flatten rest))
+  unfolding arrived flatten arrivals unendedAfter
   arrived-flat s [] = refl
   arrived-flat s (a ∷ rest) =
-      rw (arrived-flat (after most s a) rest, events-append s a (flatten rest), after-append s a (flatten rest))
-      (sym (append-assoc (events most s a) (events most (after most s a) (flatten rest)) (finished (after most (after most s a) (flatten rest)))))
+      rw (arrived-flat (unendedAfter most s a) rest, arrivals-append s a (flatten rest), after-append s a (flatten rest))
+      (sym (append-assoc (arrivals most s a) (arrivals most (unendedAfter most s a) (flatten rest)) (finished (unendedAfter most (unendedAfter most s a) (flatten rest)))))
 
   -- the line that has begun with the bytes b
-  unfoldable pub begun : List ℕ → Begun
+  unfoldable pub begun : List ℕ → Unended
   begun b = cond (leb (length b) most) (Held b) Over
 
   pub begun-held : (b : List ℕ) → length b ≤ most → begun b ≡ Held b
@@ -75,26 +75,26 @@ module _ (most : ℕ) where
   unfolding marked
   marked-long l h = rw (lt-leb _ _ h)
 
-  pub begun-ended : (b : List ℕ) → ended (begun b) ≡ marked most b
+  pub begun-closed : (b : List ℕ) → closed (begun b) ≡ marked most b
   unfolding begun marked
-  begun-ended b = elim (which (leb (length b) most)) [ inl e ↦ rw e | inr e ↦ rw e ]
+  begun-closed b = elim (which (leb (length b) most)) [ inl e ↦ rw e | inr e ↦ rw e ]
 
   -- bytes up to an LF end no line, and are added to the one that has begun
-  pub events-free : (s : Begun) (l : List ℕ) → events most s (upTo lf l) ≡ []
-  unfolding events upTo
-  events-free s [] = refl
-  events-free s (c ∷ cs) = elim (which (eqb c lf)) [ inl e ↦ rw e | inr e ↦ rw (e, e, events-free (grown most s c) cs) ]
+  pub arrivals-free : (s : Unended) (l : List ℕ) → arrivals most s (upTo lf l) ≡ []
+  unfolding arrivals upTo
+  arrivals-free s [] = refl
+  arrivals-free s (c ∷ cs) = elim (which (eqb c lf)) [ inl e ↦ rw e | inr e ↦ rw (e, e, arrivals-free (grown most s c) cs) ]
 
-  pub after-free : (b l : List ℕ) → after most (begun b) (upTo lf l) ≡ begun (b ++ upTo lf l)
-  unfolding after upTo
+  pub after-free : (b l : List ℕ) → unendedAfter most (begun b) (upTo lf l) ≡ begun (b ++ upTo lf l)
+  unfolding unendedAfter upTo
   after-free b [] = rw (append-nil b)
   after-free b (c ∷ cs) = elim (which (eqb c lf)) [
     | inl e ↦ rw (e, append-nil b)
     | inr e ↦ rw (e, e, begun-grown b c, after-free (b ++ (c ∷ [])) cs, append-snoc b c (upTo lf cs))
   ]
 
-  pub after-over : (l : List ℕ) → after most Over (upTo lf l) ≡ Over
-  unfolding after upTo grown
+  pub after-over : (l : List ℕ) → unendedAfter most Over (upTo lf l) ≡ Over
+  unfolding unendedAfter upTo grown
   after-over [] = refl
   after-over (c ∷ cs) = elim (which (eqb c lf)) [ inl e ↦ rw e | inr e ↦ rw (e, e, after-over cs) ]
 
@@ -128,20 +128,20 @@ module _ (most : ℕ) where
   ]
 
   -- the lines of what follows b, with b in front
-  events-prefixed : (b text : List ℕ) → events most (begun b) text ++ finished (after most (begun b) text) ≡ map (marked most) (prefixed b (lines text))
-  unfolding events after lines pieces prefixed
-  events-prefixed b [] = begun-finished b
-  events-prefixed b (c ∷ cs) = elim (which (eqb c lf)) [
+  arrivals-prefixed : (b text : List ℕ) → arrivals most (begun b) text ++ finished (unendedAfter most (begun b) text) ≡ map (marked most) (prefixed b (lines text))
+  unfolding arrivals unendedAfter lines pieces prefixed
+  arrivals-prefixed b [] = begun-finished b
+  arrivals-prefixed b (c ∷ cs) = elim (which (eqb c lf)) [
     | inl e ↦
-        let next = rw (begun-held [] (omega arith), prefixed-nil (lines cs)) at (events-prefixed [] cs) in
-        rw (e, begun-ended b, append-nil b, next)
-    | inr e ↦ rw (e, begun-grown b c, events-prefixed (b ++ (c ∷ [])) cs, prefixed-first b c (lines cs))
+        let next = rw (begun-held [] (omega arith), prefixed-nil (lines cs)) at (arrivals-prefixed [] cs) in
+        rw (e, begun-closed b, append-nil b, next)
+    | inr e ↦ rw (e, begun-grown b c, arrivals-prefixed (b ++ (c ∷ [])) cs, prefixed-first b c (lines cs))
   ]
 
   -- a text's lines, each over-long one marked
-  pub events-lines : (text : List ℕ) → events most (Held []) text ++ finished (after most (Held []) text) ≡ map (marked most) (lines text)
-  events-lines text = rw (begun-held [] (omega arith), prefixed-nil (lines text)) at (events-prefixed [] text)
+  pub arrivals-lines : (text : List ℕ) → arrivals most (Held []) text ++ finished (unendedAfter most (Held []) text) ≡ map (marked most) (lines text)
+  arrivals-lines text = rw (begun-held [] (omega arith), prefixed-nil (lines text)) at (arrivals-prefixed [] text)
 
   -- and the same in whatever pieces the text arrives
   pub arrived-lines : (parts : List (List ℕ)) → arrived most (Held []) parts ≡ map (marked most) (lines (flatten parts))
-  arrived-lines parts = arrived-flat (Held []) parts ∙ events-lines (flatten parts)
+  arrived-lines parts = arrived-flat (Held []) parts ∙ arrivals-lines (flatten parts)

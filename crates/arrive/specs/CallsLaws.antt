@@ -7,22 +7,22 @@ use native.Mathlib.Omega.{arith}
 use lib.Dec.{ltb}
 use lib.ListN.{length, drop, drop-of-length-le}
 use borrow.Author.Tests.{ltb-true, ltb-false}
-use Rattle.arrive.specs.Arrive.{events, after, arrived, marked}
+use Rattle.arrive.specs.Arrive.{arrivals, unendedAfter, arrived, marked}
 use Rattle.arrive.specs.ArriveLaws.{arrived-lines}
 use Rattle.arrive.specs.Calls.{Calls, noCall, calls, pieceCalls, allHanded}
-use Rattle.arrive.specs.Feed.{begunOf, fed, carryAfter}
-use Rattle.arrive.specs.FeedEventLaws.{of-none, feed-length, feed-on, feed-events, feed-after, last-event}
+use Rattle.arrive.specs.Feed.{unendedOf, fed, carryAfter}
+use Rattle.arrive.specs.FeedArrivalLaws.{of-none, feed-length, feed-on, feed-arrivals, feed-after, last-arrival}
 use Rattle.text.specs.Lines.{lines}
 use Rattle.lists.specs.TestLaws.{which}
 
 -- what calls for the bytes t come to, from the line that had begun
 pub record Right (carry : List ℕ) (held : ℕ) (t : List ℕ) (c : Calls) : Type 0 where
   pub size : length (c .carry) ≡ length carry
-  pub handed : c .handed ≡ events (length carry) (begunOf carry held) t
-  pub begun : begunOf (c .carry) (c .held) ≡ after (length carry) (begunOf carry held) t
+  pub handed : c .handed ≡ arrivals (length carry) (unendedOf carry held) t
+  pub begun : unendedOf (c .carry) (c .held) ≡ unendedAfter (length carry) (unendedOf carry held) t
 
 none-right : (carry : List ℕ) (held : ℕ) → Right carry held [] (noCall carry held)
-unfolding events after
+unfolding arrivals unendedAfter
 none-right carry held = record { size = refl; handed = refl; begun = refl }
 
 pub calls-right : (fuel : ℕ) (carry : List ℕ) (held : ℕ) (bytes : List ℕ) (at : ℕ) → length bytes ≤ at + fuel → Right carry held (drop at bytes) (calls fuel carry held bytes at)
@@ -35,15 +35,15 @@ calls-right (suc fuel) carry held bytes at h = elim (which (ltb at (length bytes
       let n = feed-length carry held bytes at in
       rw e (record {
         size = r .size ∙ n;
-        handed = rw (r .handed, n) (sym (feed-events carry held bytes at));
+        handed = rw (r .handed, n) (sym (feed-arrivals carry held bytes at));
         begun = rw (r .begun, n) (sym (feed-after carry held bytes at));
       })
   | inr e ↦ rw (e, drop-of-length-le bytes (ltb-false at (length bytes) e)) (none-right carry held)
 ]
 
-pub handed-arrived : (carry : List ℕ) (held : ℕ) (parts : List (List ℕ)) → allHanded carry held parts ≡ arrived (length carry) (begunOf carry held) parts
+pub handed-arrived : (carry : List ℕ) (held : ℕ) (parts : List (List ℕ)) → allHanded carry held parts ≡ arrived (length carry) (unendedOf carry held) parts
 unfolding allHanded arrived
-handed-arrived carry held [] = last-event carry held
+handed-arrived carry held [] = last-arrival carry held
 handed-arrived carry held (a ∷ rest) =
     let r = calls-right (length a) carry held a 0 (omega arith) in
     let c = pieceCalls carry held a in

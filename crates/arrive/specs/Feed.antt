@@ -4,7 +4,7 @@ use mathlib.Core.List.{List, [], _∷_}
 use mathlib.Core.Bool.{cond}
 use lib.Dec.{eqb, leb, ltb}
 use lib.ListN.{length, take, drop}
-use Rattle.arrive.specs.Arrive.{Event, Line, Long, Begun, Held, Over}
+use Rattle.arrive.specs.Arrive.{Arrival, Line, Long, Unended, Held, Over}
 use Rattle.text.specs.Lines.{lineFrom, lineEnd}
 use Rattle.text.specs.Place.{room, putBytes}
 use Rattle.arrive.specs.declared.Fed.{Fed}
@@ -12,8 +12,8 @@ use Rattle.arrive.specs.declared.Found.{Found}
 use Rattle.arrive.specs.declared.Found.the-variants as found
 
 -- the line that has begun: the carry's first `held` bytes, or one that is too long for it
-unfoldable pub begunOf : List ℕ → ℕ → Begun
-begunOf carry held = cond (leb held (length carry)) (Held (take held carry)) Over
+unfoldable pub unendedOf : List ℕ → ℕ → Unended
+unendedOf carry held = cond (leb held (length carry)) (Held (take held carry)) Over
 
 -- how many bytes are held with a part more: more than the carry's length where there is no room
 unfoldable pub keptLen : List ℕ → ℕ → List ℕ → ℕ
@@ -49,15 +49,15 @@ unfoldable pub lastFound : List ℕ → ℕ → Found
 lastFound carry held = cond (eqb held 0) found.Nothing (cond (leb held (length carry)) (found.Carried held) found.Long)
 
 -- the line that was found, where it lies
-abbrev pub lineOf : List ℕ → List ℕ → Found → List ℕ
-lineOf carry bytes (found.Part start end) = take (end - start) (drop start bytes)
-lineOf carry bytes (found.Carried n) = take n carry
-lineOf carry bytes found.Long = []
-lineOf carry bytes found.Nothing = []
+abbrev pub foundLine : List ℕ → List ℕ → Found → List ℕ
+foundLine carry bytes (found.Part start end) = take (end - start) (drop start bytes)
+foundLine carry bytes (found.Carried n) = take n carry
+foundLine carry bytes found.Long = []
+foundLine carry bytes found.Nothing = []
 
 -- what an answer hands on
-abbrev pub eventsOf : List ℕ → List ℕ → Found → List Event
-eventsOf carry bytes (found.Part start end) = Line (lineOf carry bytes (found.Part start end)) ∷ []
-eventsOf carry bytes (found.Carried n) = Line (lineOf carry bytes (found.Carried n)) ∷ []
-eventsOf carry bytes found.Long = Long ∷ []
-eventsOf carry bytes found.Nothing = []
+abbrev pub arrivalsOf : List ℕ → List ℕ → Found → List Arrival
+arrivalsOf carry bytes (found.Part start end) = Line (foundLine carry bytes (found.Part start end)) ∷ []
+arrivalsOf carry bytes (found.Carried n) = Line (foundLine carry bytes (found.Carried n)) ∷ []
+arrivalsOf carry bytes found.Long = Long ∷ []
+arrivalsOf carry bytes found.Nothing = []

@@ -4,5 +4,5 @@ pub mod Feed
 pub mod Calls
 pub mod ArriveLaws
 pub mod FeedLaws
-pub mod FeedEventLaws
+pub mod FeedArrivalLaws
 pub mod CallsLaws

@@ -6,7 +6,7 @@ use text::place;
 use text::place::Put;
 ghost use mathlib.Core.Path.{_≡_};
 ghost use Rattle.text.specs.Place.{putBytes};
-ghost use Rattle.arrive.specs.Feed.{keptLen, lineFound, lineCarry, fed, carryAfter, lastFound, lineOf};
+ghost use Rattle.arrive.specs.Feed.{keptLen, lineFound, lineCarry, fed, carryAfter, lastFound, foundLine};
 
 // The longest line of a script, without its LF.
 pub const LONGEST: usize = 80;
@@ -98,7 +98,7 @@ pub fn finish(carry: &[u8], held: usize) -> Found
 
 // The line that was found, where it lies: in the bytes that arrived or in the carry. Without one it is empty.
 pub fn line<'a>(carry: &'a [u8], bytes: &'a [u8], found: Found) -> &'a [u8]
-    ensures { λ r. ⌜ now r ≡ lineOf (now (carry .entry)) (now (bytes .entry)) found ⌝ }
+    ensures { λ r. ⌜ now r ≡ foundLine (now (carry .entry)) (now (bytes .entry)) found ⌝ }
 {
     match found {
         Found::Part { start, end } => cut::part(bytes, start, end),

@@ -24,14 +24,14 @@ unfoldable pub withDigit : ℕ → ℕ → Number
 withDigit n c = cond (ltb c zeroByte) Bad (cond (ltb nineByte c) Bad (cond (ltb most (appended n c)) Bad (Value (appended n c))))
 
 -- goes on with the number, if there is one
-abbrev pub andThen : Number → (ℕ → Number) → Number
-andThen (Value n) f = f n
-andThen Bad f = Bad
+abbrev pub onValue : Number → (ℕ → Number) → Number
+onValue (Value n) f = f n
+onValue Bad f = Bad
 
 -- n with all digits of a list after it
 unfoldable pub withDigits : ℕ → List ℕ → Number
 withDigits n [] = Value n
-withDigits n (c ∷ cs) = andThen (withDigit n c) (λ m. withDigits m cs)
+withDigits n (c ∷ cs) = onValue (withDigit n c) (λ m. withDigits m cs)
 
 -- a zero stands alone
 abbrev pub loneZero : List ℕ → Number

@@ -10,14 +10,14 @@ use lib.ListN.{length, getD, drop, drop-of-length-le}
 use lib.Seq.{append-snoc, drop-cons}
 use borrow.Author.Tests.{le-ltb, eq-eqb, ne-eqb, ltb-true, ltb-false, eqb-true, eqb-false}
 use Rattle.decimal.specs.Decimal.{decimal, digitsWithin, lastDigit, zeroByte}
-use Rattle.decimal.specs.Parse.{most, nineByte, appended, withDigit, andThen, withDigits, loneZero, parsed}
+use Rattle.decimal.specs.Parse.{most, nineByte, appended, withDigit, onValue, withDigits, loneZero, parsed}
 use Rattle.decimal.specs.declared.Number.{Number}
 use Rattle.decimal.specs.declared.Number.the-variants.{Value, Bad}
 use Rattle.lists.specs.TestLaws.{which}
 use Rattle.decimal.specs.DecimalLaws.{within-small, within-large, tenth, some, no-zero, decimal-more}
 
 -- one digit at place i
-pub digits-step : (n : ℕ) (l : List ℕ) (i : ℕ) → i < length l → withDigits n (drop i l) ≡ andThen (withDigit n (getD l i 0)) (λ m. withDigits m (drop (i + 1) l))
+pub digits-step : (n : ℕ) (l : List ℕ) (i : ℕ) → i < length l → withDigits n (drop i l) ≡ onValue (withDigit n (getD l i 0)) (λ m. withDigits m (drop (i + 1) l))
 unfolding withDigits
 digits-step n l i h = rw (add-one, drop-cons l i 0 h)
 
@@ -62,9 +62,9 @@ pub record Taken (n c v : ℕ) : Type 0 where
 not-bad : {v : ℕ} → Bad ≡ Value v → ⊥
 not-bad h = let z : _≡_ {A = ℕ} 0 1 = cc in omega arith
 
-pub taken : (n c v : ℕ) → withDigit n c ≡ Value v → Taken n c v
+pub digit-was : (n c v : ℕ) → withDigit n c ≡ Value v → Taken n c v
 unfolding withDigit
-taken n c v h = elim (which (ltb c zeroByte)) [
+digit-was n c v h = elim (which (ltb c zeroByte)) [
   | inl e ↦ absurd (not-bad (rw e at h))
   | inr e ↦ elim (which (ltb nineByte c)) [
     | inl f ↦ absurd (not-bad (rw (e, f) at h))
@@ -83,11 +83,11 @@ taken n c v h = elim (which (ltb c zeroByte)) [
   ]
 ]
 
-and-then : (x : Number) (f g h : ℕ → Number) → ((m : ℕ) → f m ≡ andThen (g m) h) → andThen x f ≡ andThen (andThen x g) h
+and-then : (x : Number) (f g h : ℕ → Number) → ((m : ℕ) → f m ≡ onValue (g m) h) → onValue x f ≡ onValue (onValue x g) h
 and-then (Value n) f g h e = e n
 and-then Bad f g h e = refl
 
-pub digits-append : (n : ℕ) (a b : List ℕ) → withDigits n (a ++ b) ≡ andThen (withDigits n a) (λ m. withDigits m b)
+pub digits-append : (n : ℕ) (a b : List ℕ) → withDigits n (a ++ b) ≡ onValue (withDigits n a) (λ m. withDigits m b)
 unfolding withDigits
 digits-append n [] b = refl
 digits-append n (c ∷ a) b = and-then (withDigit n c) _ _ _ (λ m. digits-append m a b)
@@ -123,7 +123,7 @@ parse-written (suc v) h =
     parsed-digits (digitsWithin 10 (suc v)) (some 9 (suc v)) (no-zero 9 (suc v) (omega arith) (omega arith))
     ∙ digits-back 9 (suc v) (omega arith) h
 
-then-value : {G : Type 0} (x : Number) (f : ℕ → Number) (v : ℕ) → andThen x f ≡ Value v → ((m : ℕ) → x ≡ Value m → f m ≡ Value v → G) → G
+then-value : {G : Type 0} (x : Number) (f : ℕ → Number) (v : ℕ) → onValue x f ≡ Value v → ((m : ℕ) → x ≡ Value m → f m ≡ Value v → G) → G
 then-value (Value n) f v h k = k n refl h
 then-value Bad f v h k = absurd (not-bad h)
 
@@ -131,7 +131,7 @@ digits-written : (n v : ℕ) (cs : List ℕ) → 0 < n → n ≤ most → withDi
 unfolding withDigits
 digits-written n v [] p q h = let e : n ≡ v = cc in (omega arith, append-nil (decimal n) ∙ ap decimal e)
 digits-written n v (c ∷ cs) p q h = then-value (withDigit n c) (λ m. withDigits m cs) v h (λ m e g.
-    let t = taken n c m e in
+    let t = digit-was n c m e in
     let r = digits-written m v cs (omega arith) (t .fits) g in
     let b : zeroByte + (c - zeroByte) ≡ c = omega arith in
     let d : decimal m ≡ decimal n ++ (c ∷ []) = rw (t .sum, decimal-more n (c - zeroByte) p (omega arith) (omega arith), b) in
@@ -151,7 +151,7 @@ written-parse (c ∷ cs) v h = elim (which (eqb c zeroByte)) [
 
   digits : withDigits 0 (c ∷ cs) ≡ Value v → (c ≡ zeroByte → ⊥) → (v ≤ most) × (decimal v ≡ c ∷ cs)
   digits g e = then-value (withDigit 0 c) (λ m. withDigits m cs) v g (λ m u w.
-      let t = taken 0 c m u in
+      let t = digit-was 0 c m u in
       let r = digits-written m v cs (omega arith) (t .fits) w in
       let b : lastDigit m ≡ c = omega arith in
       (r .0, sym (rw (within-small 9 m (omega arith), b) at (r .1))))

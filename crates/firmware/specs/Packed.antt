@@ -5,11 +5,11 @@ use Rattle.record.specs.StepRecord.{numberOf, valueOf, runOf}
 use Rattle.record.specs.declared.Answer.{Answer}  -- keep
 
 -- number, value and task to run, side by side
-abbrev pub joined : ℕ → ℕ → ℕ → ℕ
-joined number value run = number + run * 256 + value * 4294967296
+abbrev pub packedParts : ℕ → ℕ → ℕ → ℕ
+packedParts number value run = number + run * 256 + value * 4294967296
 
 abbrev pub packed : Answer → ℕ
-packed x = joined (numberOf x) (valueOf x) (runOf x)
+packed x = packedParts (numberOf x) (valueOf x) (runOf x)
 
 -- the parts of such a number
 abbrev pub numberIn : ℕ → ℕ

@@ -1,6 +1,6 @@
 // An answer in one number, and its parts out of it.
 ghost use mathlib.Core.Path.{_≡_};
-ghost use Rattle.firmware.specs.Packed.{joined, numberIn, runIn, valueIn, Carries};
+ghost use Rattle.firmware.specs.Packed.{packedParts, numberIn, runIn, valueIn, Carries};
 use record::Answer;
 
 // How far apart the parts stand: the number in bits 0 to 7, the task to run in 8 to 15, the value in 32 to 63.
@@ -9,7 +9,7 @@ const BYTE: u64 = 256;
 const WORD: u64 = 4294967296;
 
 fn join(number: u8, value: u32, run: u8) -> u64
-    ensures { λ r. ⌜ (r ≡ joined number value run) × (numberIn r ≡ number) × (runIn r ≡ run) × (valueIn r ≡ value) ⌝ }
+    ensures { λ r. ⌜ (r ≡ packedParts number value run) × (numberIn r ≡ number) × (runIn r ≡ run) × (valueIn r ≡ value) ⌝ }
 {
     number as u64 + run as u64 * BYTE + value as u64 * WORD
 }

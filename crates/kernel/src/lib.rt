@@ -1,6 +1,6 @@
 // The kernel: the step that takes any record and any request, and a refusal from outside it.
 ghost use mathlib.Core.Path.{_≡_};
-ghost use Rattle.queues.specs.Queue.{idOf};
+ghost use Rattle.task_lists.specs.TaskList.{idOf};
 ghost use Rattle.record.specs.StepRecord.{stepOf, stays};
 ghost use Rattle.record.specs.DemandRecord.{standingIn};
 use record::Answer;

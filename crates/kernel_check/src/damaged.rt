@@ -2,7 +2,7 @@
 use crate::edges;
 use crate::records;
 use crate::show;
-use queues::Queue;
+use task_lists::TaskList;
 use record::MUTEXES;
 use record::Mutexes;
 use record::Request;
@@ -201,20 +201,20 @@ pub fn semaphores() {
     try_semaphores(b"a maximum in an unused place", c);
 }
 
-fn try_ready(label: &[u8], q: Queue) {
+fn try_ready(label: &[u8], q: TaskList) {
     let mut s = base();
     s.ready = q;
     tried(label, s);
 }
 
 // The record in set-up with another ready order.
-fn try_set_up(label: &[u8], q: Queue) {
+fn try_set_up(label: &[u8], q: TaskList) {
     let mut s = set_up();
     s.ready = q;
     tried(label, s);
 }
 
-fn try_waiting(label: &[u8], q: Queue) {
+fn try_waiting(label: &[u8], q: TaskList) {
     let mut s = base();
     s.waiting = q;
     tried(label, s);
@@ -320,7 +320,7 @@ pub fn wild() {
         maximum: [4294967295u32; SEMAPHORES],
         n: 255,
     };
-    let q = Queue {
+    let q = TaskList {
         ids: [255u8; TASKS],
         n: 255,
     };

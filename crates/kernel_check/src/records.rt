@@ -1,5 +1,5 @@
 // Are two records the same in every field?
-use queues::Queue;
+use task_lists::TaskList;
 use record::MAX_TASKS;
 use record::MUTEXES;
 use record::Mutexes;
@@ -40,7 +40,7 @@ fn same_bytes(a: [u8; TASKS], b: [u8; TASKS]) -> bool {
     walks::agree(a, b, MAX_TASKS)
 }
 
-fn same_queue(a: Queue, b: Queue) -> bool {
+fn same_list(a: TaskList, b: TaskList) -> bool {
     let x = a.ids;
     let y = b.ids;
     same_bytes(x, y) && a.n == b.n
@@ -99,7 +99,7 @@ pub fn same(a: State, b: State) -> bool {
     same_tasks(a.tasks, b.tasks)
         && same_mutexes(a.mutexes, b.mutexes)
         && same_semaphores(a.semaphores, b.semaphores)
-        && same_queue(a.ready, b.ready)
-        && same_queue(a.waiting, b.waiting)
+        && same_list(a.ready, b.ready)
+        && same_list(a.waiting, b.waiting)
         && same_numbers(a, b)
 }

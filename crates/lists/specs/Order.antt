@@ -14,13 +14,13 @@ keep p [] = []
 keep p (x ∷ l) = cond (p x) (x ∷ keep p l) (keep p l)
 
 -- the numbers 0 to n - 1
-unfoldable pub upTo : ℕ → List ℕ
-upTo zero = []
-upTo (suc n) = upTo n ++ (n ∷ [])
+unfoldable pub range : ℕ → List ℕ
+range zero = []
+range (suc n) = range n ++ (n ∷ [])
 
 -- the numbers below n that pass the test, ascending
 unfoldable pub byId : ℕ → (ℕ → Bool) → List ℕ
-byId n p = keep p (upTo n)
+byId n p = keep p (range n)
 
 -- x before the first that passes the test
 unfoldable pub place : (ℕ → Bool) → ℕ → List ℕ → List ℕ

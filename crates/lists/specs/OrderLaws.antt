@@ -12,7 +12,7 @@ use lib.Seq.{append-snoc}
 use borrow.Author.Tests.{ltb-true, ltb-false, leb-true, leb-false, eqb-true, eqb-false, not-true, lt-ltb, le-ltb, le-leb, eq-eqb}
 use Rattle.lists.specs.Test.{_and_}
 use Rattle.lists.specs.Count.{eqn, occ, member, below}
-use Rattle.lists.specs.Order.{keep, upTo, byId, place, insertTail, insertHead, insertAll, stable, Asc, ascb, Ties, tiesb, leastOf, leastFirst, before, inside}
+use Rattle.lists.specs.Order.{keep, range, byId, place, insertTail, insertHead, insertAll, stable, Asc, ascb, Ties, tiesb, leastOf, leastFirst, before, inside}
 use Rattle.lists.specs.TestLaws.{which, clash, by-test, and-l, and-r, true-and, or-true, or-l, or-r, none-some}
 use Rattle.lists.specs.CountLaws.{eqn-at, eqn-other, occ-append, occ-head, below-out, in-below, below-le, below-suc}
 
@@ -131,17 +131,17 @@ unfolding keep
 keep-append p [] t = refl
 keep-append p (x ∷ s) t = elim (which (p x)) [ inl e ↦ rw e (ap (x ∷_) (keep-append p s t)) | inr e ↦ rw e (keep-append p s t) ]
 
-pub occ-upTo : (i n : ℕ) → occ i (upTo n) ≡ below i n
-unfolding upTo occ
-occ-upTo i zero = omega (arith, below-out i 0 (omega arith))
-occ-upTo i (suc n) = omega (arith, occ-append i (upTo n) (n ∷ []), occ-upTo i n, below-suc i n)
+pub occ-range : (i n : ℕ) → occ i (range n) ≡ below i n
+unfolding range occ
+occ-range i zero = omega (arith, below-out i 0 (omega arith))
+occ-range i (suc n) = omega (arith, occ-append i (range n) (n ∷ []), occ-range i n, below-suc i n)
 
 -- the members of l by number
 pub occ-byId : (i n : ℕ) (l : List ℕ) → occ i l ≤ below i n → occ i (byId n (λ j. member j l)) ≡ occ i l
 unfolding byId
 occ-byId i n l h = elim (which (member i l)) [
-  | inl e ↦ omega (arith, occ-kept (λ j. member j l) i (upTo n) e, occ-upTo i n, ltb-true 0 (occ i l) e, below-le i n)
-  | inr e ↦ omega (arith, occ-dropped (λ j. member j l) i (upTo n) e, ltb-false 0 (occ i l) e)
+  | inl e ↦ omega (arith, occ-kept (λ j. member j l) i (range n) e, occ-range i n, ltb-true 0 (occ i l) e, below-le i n)
+  | inr e ↦ omega (arith, occ-dropped (λ j. member j l) i (range n) e, ltb-false 0 (occ i l) e)
 ]
 
 -- those of l that pass stay, and the others by number
@@ -149,10 +149,10 @@ pub occ-split : (i n : ℕ) (same : ℕ → Bool) (l : List ℕ) → occ i l ≤
     → occ i (keep same l) + occ i (byId n (λ j. not (same j) and member j l)) ≡ occ i l
 unfolding byId _and_
 occ-split i n same l h = elim (which (same i)) [
-  | inl e ↦ omega (arith, occ-kept same i l e, occ-dropped p i (upTo n) (rw e refl))
+  | inl e ↦ omega (arith, occ-kept same i l e, occ-dropped p i (range n) (rw e refl))
   | inr e ↦ elim (which (member i l)) [
-    | inl m ↦ omega (arith, occ-dropped same i l e, occ-kept p i (upTo n) (rw (e, m) refl), occ-upTo i n, ltb-true 0 (occ i l) m, below-le i n)
-    | inr m ↦ omega (arith, occ-dropped same i l e, occ-dropped p i (upTo n) (rw (e, m) refl), ltb-false 0 (occ i l) m)
+    | inl m ↦ omega (arith, occ-dropped same i l e, occ-kept p i (range n) (rw (e, m) refl), occ-range i n, ltb-true 0 (occ i l) m, below-le i n)
+    | inr m ↦ omega (arith, occ-dropped same i l e, occ-dropped p i (range n) (rw (e, m) refl), ltb-false 0 (occ i l) m)
   ]
 ]
   where
@@ -279,19 +279,19 @@ keep-ext p q (x ∷ l) h = rw (h x (occ-head x l), keep-ext p q l (λ y m. h y (
 
 pub byId-ext : (n : ℕ) (p q : ℕ → Bool) → ((i : ℕ) → i < n → p i ≡ q i) → byId n p ≡ byId n q
 unfolding byId
-byId-ext n p q h = keep-ext p q (upTo n) (λ y m. h y (in-below y n (omega (arith, occ-upTo y n))))
+byId-ext n p q h = keep-ext p q (range n) (λ y m. h y (in-below y n (omega (arith, occ-range y n))))
 
 pub byId-none : (n : ℕ) (p : ℕ → Bool) → ((i : ℕ) → p i ≡ false) → byId n p ≡ []
 unfolding byId
-byId-none n p h = keep-none p (upTo n) (λ y m. h y)
+byId-none n p h = keep-none p (range n) (λ y m. h y)
 
 -- r alone, where no other number passes
 pub byId-one : (n r : ℕ) (p : ℕ → Bool) → r < n → p r ≡ true → ((y : ℕ) → (y ≡ r → ⊥) → p y ≡ false) → byId n p ≡ r ∷ []
-unfolding byId keep upTo
+unfolding byId keep range
 byId-one zero r p h passes others = absurd (omega arith)
 byId-one (suc n) r p h passes others = elim (ℕ-discrete r n) [
-  | yes e ↦ keep-append p (upTo n) (n ∷ []) ∙ rw (keep-none p (upTo n) (λ y m. others y (λ q. omega (arith, occ-upTo y n, below-out y n (omega arith)))), ← e, passes) refl
-  | no q ↦ keep-append p (upTo n) (n ∷ []) ∙ rw (byId-one n r p (omega arith) passes others, others n (λ e. q (sym e))) refl
+  | yes e ↦ keep-append p (range n) (n ∷ []) ∙ rw (keep-none p (range n) (λ y m. others y (λ q. omega (arith, occ-range y n, below-out y n (omega arith)))), ← e, passes) refl
+  | no q ↦ keep-append p (range n) (n ∷ []) ∙ rw (byId-one n r p (omega arith) passes others, others n (λ e. q (sym e))) refl
 ]
 
 -- what is kept was there, and passes

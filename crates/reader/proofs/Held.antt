@@ -1,5 +1,5 @@
 -- What a `Reader` owns, taken apart and put together. Each walk of a function over one cites this.
---     Row              the struct's type, over a signature's one lifetime
+--     Kind              the struct's type, over a signature's one lifetime
 --     Own, OwnText     what a reader owns, and what its text owns. Both are Copy, so each can be had twice
 --     whole, fields    what is passed to a function that takes the reader, and to one that takes its text and its place
 --     apart            who is passed a reader can pass its fields on, and keeps what the reader owns
@@ -34,8 +34,8 @@ use Rattle.reader.specs.declared.Reader.{Reader}
 use Rattle.reader.proofs.Reader as T
 use Rattle.reader.proofs.Reader.Laws as T′
 
-abbrev pub Row : Lfts 1 → RattleType
-Row κs = T.the-row (namedLft 1 0 tt κs)
+abbrev pub Kind : Lfts 1 → RattleType
+Kind κs = T.the-row (namedLft 1 0 tt κs)
 
 -- the struct's type and its laws
 abbrev pub D : Lfts 1 → Declared
@@ -53,13 +53,13 @@ val d = T′.lowered d
 
 module _ (κ : Lft) (d : Reader) where
   abbrev pub Own : Fml
-  Own = Row (κ, tt) .own d (val d ∷ [])
+  Own = Kind (κ, tt) .own d (val d ∷ [])
 
   abbrev pub OwnText : Fml
   OwnText = ShrSlice (named 0) κ u8 .own (d .text) (textVal d ∷ [])
 
   abbrev pub whole : Fml
-  whole = owns (Row (κ, tt) ∷ []) (d, tt) (val d ∷ [], tt)
+  whole = owns (Kind (κ, tt) ∷ []) (d, tt) (val d ∷ [], tt)
 
   abbrev pub fields : Fml
   fields = owns (ShrSlice (named 0) κ u8 ∷ usize ∷ []) (d .text, (d .at, tt)) (textVal d ∷ [], (vint w64 (d .at) ∷ [], tt))
@@ -71,7 +71,7 @@ module _ (κ : Lft) (d : Reader) where
     pub twice : ent 𝓤 (sem 𝓤 H A Own) (sep 𝓤 (sem 𝓤 H A Own) (sem 𝓤 H A Own))
     twice = LL.copy (D (κ, tt)) (T′.the-copy (namedLft 1 0 tt (κ, tt))) 𝓤 H A W .twice d (val d ∷ [])
 
-    pub moved : (n : ℕ) → n < 2 ^ 64 → ent 𝓤 (sem 𝓤 H A Own) (sem 𝓤 H A (Row (κ, tt) .own (record { text = d .text; at = n }) (val (record { text = d .text; at = n }) ∷ [])))
+    pub moved : (n : ℕ) → n < 2 ^ 64 → ent 𝓤 (sem 𝓤 H A Own) (sem 𝓤 H A (Kind (κ, tt) .own (record { text = d .text; at = n }) (val (record { text = d .text; at = n }) ∷ [])))
     moved n fits =
         qed W (‵ Own ∷ []) ∵
         owned ! usize (Is usize) (uint-makes 𝓤 H A W w64) n _ (refl, fits) $ move ! (1 ∷ 0 ∷ []) $ by ! (own-put 𝓤 H A W (D (κ, tt)) (L (κ, tt)) 1 parts n (val d))

@@ -44,7 +44,7 @@ pub fn line<'a>(r: Reader<'a>) -> &'a [u8]
 }
 
 // The reader behind that line, over the same text. One that has ended stays where it is.
-pub fn after<'a>(r: Reader<'a>) -> Reader<'a>
+pub fn advance<'a>(r: Reader<'a>) -> Reader<'a>
     ensures { λ q. ⌜ (q .text ≡ r .entry .text) × (q .at ≡ nextLine (now (r .entry .text)) (r .entry .at)) ⌝ }
 {
     Reader {
@@ -73,7 +73,7 @@ pub fn line_at<'a>(text: &'a [u8], at: usize) -> &'a [u8]
 pub fn next_at(text: &[u8], at: usize) -> usize
     ensures { λ n. ⌜ n ≡ nextLine (now (text .entry)) at ⌝ }
 {
-    after(Reader { text, at }).at
+    advance(Reader { text, at }).at
 }
 
 // The text's first line, empty where it has none.

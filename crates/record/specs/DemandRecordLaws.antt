@@ -18,7 +18,7 @@ use Rattle.rules.specs.Demand.{events, after}
 use Rattle.rules.specs.RefusalLaws.{call-by, refused-unchanged, sound-stands}
 use Rattle.rules.specs.AgreeLaws.{eventOf}
 use Rattle.rules.specs.DemandLaws.{call-inv, demand-3}
-use Rattle.queues.specs.Queue.{noId, idOf}
+use Rattle.task_lists.specs.TaskList.{noId, idOf}
 use Rattle.walks.specs.Walk.{taskAt}
 use Rattle.record.specs.Record.{view, pack}
 use Rattle.record.specs.SoundRecord.{tidyb, soundOf}

@@ -5,7 +5,7 @@ use mathlib.Core.Option.{Option, none, some}
 use Prim.Native.Nat.{ℕ}
 use Rattle.lists.specs.Test.{_and_, _or_, allb, someb, holds}
 use Rattle.lists.specs.Count.{eqn, occ}
-use Rattle.lists.specs.Order.{keep, upTo, byId, place, insertTail, insertHead, insertAll, stable, ascb, tiesb, firstAt, orElse, firstFrom, before, inside}
+use Rattle.lists.specs.Order.{keep, range, byId, place, insertTail, insertHead, insertAll, stable, ascb, tiesb, firstAt, orElse, firstFrom, before, inside}
 use Rattle.lists.specs.Table.{edit, pad, filled}
 use Rattle.chains.specs.Chain.{walk, endsb}
 use Rattle.chains.specs.Least.{least, leadsTo, leastLeading}
@@ -16,10 +16,10 @@ use Rattle.rules.specs.Settle.{settledReady, meet, dispatch, finish}
 use Rattle.rules.specs.Refusal.{ofCaller, linksFor, refusals, firstRow}
 use Rattle.rules.specs.Sound.{columnsb, sizesb, rangesb, clockb, waitCount, waitingb, placesb, ascendingb, unavailableb, leftb, blockedb, timedb, waitersb, timesb, existsb, ownersb, noRingb, countsb, outcomeb, outcomesb, noneIn, runsb, holdb, urgentTop, urgentb, setUpb, tablesb, soundb}
 use Rattle.rules.specs.Vectors.{Fields}
-use Rattle.queues.specs.Queue.{queueOf, idOf}
+use Rattle.task_lists.specs.TaskList.{taskListOf, idOf}
 use Rattle.walks.specs.Walk.{taskAt}
 use Rattle.record.specs.Record.{leftIn, waitIn, waitAt, viewTables, view, awaitedKind, awaitedObject, leftCode, kindCode, objectCode, timedCode, dueCode, packTasks, packMutexes, packSemaphores, pack}
-use Rattle.record.specs.SoundRecord.{usedTaskb, unusedTaskb, taskPlaceb, tasksTidyb, mutexPlaceb, mutexesTidyb, semPlaceb, semaphoresTidyb, queueTidyb, tidyb, levelsb, soundOf}
+use Rattle.record.specs.SoundRecord.{usedTaskb, unusedTaskb, taskPlaceb, tasksTidyb, mutexPlaceb, mutexesTidyb, semPlaceb, semaphoresTidyb, taskListTidyb, tidyb, levelsb, soundOf}
 use Rattle.record.specs.StepRecord.{stepFor, numberOf, valueOf, runOf, answerFor, outFor, stays, stepOf}
 use Rattle.record.specs.DemandRecord.{freshRecord}
 use Rattle.record.specs.declared.State.{State}  -- keep
@@ -109,7 +109,7 @@ edgeTable =
     gets (Task 32) 7 0 none ∷
     []) ∷
     -- "sixteenth task: 0; seventeenth: 8"
-    edge "P4" freshRecord 0 (map (λ i. gets (Task 5) 0 i none) (upTo 16) ++ (
+    edge "P4" freshRecord 0 (map (λ i. gets (Task 5) 0 i none) (range 16) ++ (
     gets (Task 5) 8 0 none ∷
     [])) ∷
     -- "lock a mutex one owns: 9, also with time 0"
@@ -288,9 +288,9 @@ edgeTable =
 -- `step` gives each row what is due to it; unfolded is all that it is made of, its test of soundness included
 pub edges-hold : map givenIn edgeTable ≡ map dueIn edgeTable
 unfolding edgeTable givenIn dueIn played startedAt freshRecord stepOf soundOf tidyb levelsb tasksTidyb taskPlaceb usedTaskb unusedTaskb mutexesTidyb mutexPlaceb
-    semaphoresTidyb semPlaceb queueTidyb stepFor numberOf valueOf runOf answerFor outFor stays view viewTables waitAt waitIn leftIn pack packTasks
-    packMutexes packSemaphores awaitedKind awaitedObject leftCode kindCode objectCode timedCode dueCode queueOf idOf pad filled
-    _and_ _or_ allb someb holds eqn occ keep upTo byId place insertTail insertHead insertAll stable ascb tiesb
+    semaphoresTidyb semPlaceb taskListTidyb stepFor numberOf valueOf runOf answerFor outFor stays view viewTables waitAt waitIn leftIn pack packTasks
+    packMutexes packSemaphores awaitedKind awaitedObject leftCode kindCode objectCode timedCode dueCode taskListOf idOf pad filled
+    _and_ _or_ allb someb holds eqn occ keep range byId place insertTail insertHead insertAll stable ascb tiesb
     firstAt orElse firstFrom before inside edit walk endsb least leadsTo leastLeading mutexIn mutexAwaited andThen next lends levelIn chainOf
     sameAwaited waitIsFor waitersOf bestWaiter fresh ticksOf callerWaits lockBy passOn pendBy credit flushOf isDue expiry outcomeDue lessOne age
     tickOf yieldBy called effect settledReady meet dispatch finish ofCaller linksFor refusals firstRow columnsb sizesb rangesb clockb waitCount

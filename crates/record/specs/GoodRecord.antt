@@ -3,7 +3,7 @@ use mathlib.Core.Path.{_≡_}
 use Prim.Native.Nat.{ℕ, _<_}
 use lib.ListN.{length, getD}
 use Rattle.rules.specs.Sizes.{maxTasks, maxMutexes, maxSemaphores, wordSize}
-use Rattle.queues.specs.Queue.{places}
+use Rattle.task_lists.specs.TaskList.{places}
 use Rattle.record.specs.declared.State.{State}  -- keep
 
 -- what holds of every value of the record's type: arrays have their lengths, and numbers fit

@@ -20,12 +20,12 @@ use Rattle.rules.specs.Levels.{levelIn}
 use Rattle.rules.specs.Step.{hold, level, outcome}
 use Rattle.rules.specs.Effect.{due}
 use Rattle.rules.specs.History.{at}
-use Rattle.queues.specs.Queue.{places, noId, items, queueOf, idOf}
-use Rattle.queues.specs.QueueLaws.{queue-of-items}
+use Rattle.task_lists.specs.TaskList.{places, noId, items, taskListOf, idOf}
+use Rattle.task_lists.specs.TaskListLaws.{list-of-items}
 use Rattle.walks.specs.Walk.{taskAt}
 use Rattle.walks.specs.WalkLaws.{other-default, task-in}
 use Rattle.record.specs.Record.{ticksLeft, dueAt, leftIn, waitIn, waitAt, viewTables, view, awaitedKind, awaitedObject, leftCode, kindCode, objectCode, timedCode, dueCode, packTasks, packMutexes, packSemaphores, pack}
-use Rattle.record.specs.SoundRecord.{usedTaskb, unusedTaskb, idb, mutexPlaceb, semPlaceb, queueTidyb, tidyb, levelsb}
+use Rattle.record.specs.SoundRecord.{usedTaskb, unusedTaskb, idb, mutexPlaceb, semPlaceb, taskListTidyb, tidyb, levelsb}
 use Rattle.record.specs.Setters.{withTasks, withLevel}
 use Rattle.record.specs.GoodRecord.{Typed}
 use Rattle.record.specs.TidyLaws.{tasks-fit, mutexes-fit, semaphores-fit, mutex-place, sem-place, used-task, unused-task}
@@ -34,7 +34,7 @@ use Rattle.record.specs.declared.State.{State}  -- keep
 use Rattle.record.specs.declared.Tasks.{Tasks}  -- keep
 use Rattle.record.specs.declared.Mutexes.{Mutexes}  -- keep
 use Rattle.record.specs.declared.Semaphores.{Semaphores}  -- keep
-use Rattle.queues.specs.declared.Queue.{Queue}  -- keep
+use Rattle.task_lists.specs.declared.TaskList.{TaskList}  -- keep
 use Rattle.rules.specs.State.{State as Model, levelOf}  -- keep
 
 -- the table of levels
@@ -237,9 +237,9 @@ good-semaphores k T tidy = same-semaphores _ _
       | inr f ↦ f
     ]
 
-good-queue : (q : Queue) → length (q .ids) ≡ places → queueTidyb q ≡ true → queueOf (items q) ≡ q
-unfolding queueTidyb
-good-queue q h e = sym (queue-of-items q (leb-true _ _ (and-l _ _ e)) h (and-r _ _ e))
+good-list : (q : TaskList) → length (q .ids) ≡ places → taskListTidyb q ≡ true → taskListOf (items q) ≡ q
+unfolding taskListTidyb
+good-list q h e = sym (list-of-items q (leb-true _ _ (and-l _ _ e)) h (and-r _ _ e))
 
 started-back : (x : ℕ) → x ≤ 1 → cond (not (eqb x 0)) 1 0 ≡ x
 started-back zero h = refl
@@ -260,8 +260,8 @@ good-pack k T e lv =
     (good-semaphores k T e)
     refl
     (good-mutexes k T e)
-    (good-queue (k .ready) (T .ready-length) (and-l _ _ e3))
-    (good-queue (k .waiting) (T .waiting-length) (and-l _ _ e4))
+    (good-list (k .ready) (T .ready-length) (and-l _ _ e3))
+    (good-list (k .waiting) (T .waiting-length) (and-l _ _ e4))
     (started-back (k .started) (leb-true _ _ (and-l _ _ e5)))
     refl
     (id-back (k .running) (and-r _ _ e5))

@@ -20,7 +20,7 @@ use Rattle.rules.specs.Tables.{outcomeOf, countOf, maximumOf}
 use Rattle.rules.specs.Levels.{mutexIn, mutexAwaited, andThen, next, heirOf, lends, levelIn}
 use Rattle.rules.specs.Invariant.{Facts}
 use Rattle.rules.specs.LevelLaws.{wait-out, next-none, lends-ended}
-use Rattle.queues.specs.Queue.{noId, keyOf, idOf}
+use Rattle.task_lists.specs.TaskList.{noId, keyOf, idOf}
 use Rattle.walks.specs.Walk.{taskAt, nextIn, raised}
 use Rattle.walks.specs.WalkLaws.{next-in, next-out, length-raised, raised-ext, raised-out}
 use Rattle.record.specs.Record.{onMutex, awaitedKind, awaitedObject, kindCode, objectCode, timedCode, dueCode, packTasks, packMutexes, packSemaphores, pack}

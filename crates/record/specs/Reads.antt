@@ -6,13 +6,13 @@ use lib.Dec.{eqb}
 use lib.ListN.{getD}
 use Rattle.lists.specs.Table.{filled}
 use Rattle.rules.specs.Sizes.{maxTasks, inheriting}
-use Rattle.queues.specs.Queue.{noId}
+use Rattle.task_lists.specs.TaskList.{noId}
 use Rattle.walks.specs.Walk.{raised}
 use Rattle.record.specs.Record.{onMutex}
 use Rattle.record.specs.declared.Tasks.{Tasks}  -- keep
 use Rattle.record.specs.declared.Mutexes.{Mutexes}  -- keep
 use Rattle.record.specs.declared.Semaphores.{Semaphores}  -- keep
-use Rattle.queues.specs.declared.Queue.{Queue}  -- keep
+use Rattle.task_lists.specs.declared.TaskList.{TaskList}  -- keep
 
 -- the clock at which a task's timed wait ends
 abbrev pub dueOf : Tasks → ℕ → ℕ
@@ -32,8 +32,8 @@ countAt c j = getD (c .count) j 0
 abbrev pub maximumAt : Semaphores → ℕ → ℕ
 maximumAt c j = getD (c .maximum) j 0
 
--- who stands first in a queue
-abbrev pub firstId : Queue → ℕ
+-- who stands first in a list
+abbrev pub firstId : TaskList → ℕ
 firstId q = getD (q .ids) 0 0
 
 -- the owner of the mutex for which i waits, mutexes of every kind

@@ -13,7 +13,7 @@ use Rattle.rules.specs.Tables.{tasks, mutexes, semaphores}
 use Rattle.rules.specs.Levels.{levelIn}
 use Rattle.rules.specs.Step.{hold, level, outcome}
 use Rattle.rules.specs.Effect.{due}
-use Rattle.queues.specs.Queue.{noId, items, queueOf, idOf}
+use Rattle.task_lists.specs.TaskList.{noId, items, taskListOf, idOf}
 use Rattle.walks.specs.Walk.{taskAt}
 use Rattle.record.specs.declared.State.{State}  -- keep
 use Rattle.record.specs.declared.Tasks.{Tasks}  -- keep
@@ -131,8 +131,8 @@ pack s = record {
   semaphores = packSemaphores (s .tables);
   clock = s .clock;
   mutexes = packMutexes (s .tables);
-  ready = queueOf (s .ready);
-  waiting = queueOf (s .tables .waiting);
+  ready = taskListOf (s .ready);
+  waiting = taskListOf (s .tables .waiting);
   started = cond (s .started) 1 0;
   hold = s .hold;
   running = idOf (s .running);

@@ -5,7 +5,7 @@ use Rattle.record.specs.declared.State.{State}  -- keep
 use Rattle.record.specs.declared.Tasks.{Tasks}  -- keep
 use Rattle.record.specs.declared.Mutexes.{Mutexes}  -- keep
 use Rattle.record.specs.declared.Semaphores.{Semaphores}  -- keep
-use Rattle.queues.specs.declared.Queue.{Queue}  -- keep
+use Rattle.task_lists.specs.declared.TaskList.{TaskList}  -- keep
 
 abbrev pub withTasks : State → Tasks → State
 withTasks k t = record { tasks = t; semaphores = k .semaphores; clock = k .clock; mutexes = k .mutexes; ready = k .ready; waiting = k .waiting; started = k .started; hold = k .hold; running = k .running }
@@ -19,10 +19,10 @@ withClock k c = record { tasks = k .tasks; semaphores = k .semaphores; clock = c
 abbrev pub withMutexes : State → Mutexes → State
 withMutexes k m = record { tasks = k .tasks; semaphores = k .semaphores; clock = k .clock; mutexes = m; ready = k .ready; waiting = k .waiting; started = k .started; hold = k .hold; running = k .running }
 
-abbrev pub withReady : State → Queue → State
+abbrev pub withReady : State → TaskList → State
 withReady k q = record { tasks = k .tasks; semaphores = k .semaphores; clock = k .clock; mutexes = k .mutexes; ready = q; waiting = k .waiting; started = k .started; hold = k .hold; running = k .running }
 
-abbrev pub withWaiting : State → Queue → State
+abbrev pub withWaiting : State → TaskList → State
 withWaiting k q = record { tasks = k .tasks; semaphores = k .semaphores; clock = k .clock; mutexes = k .mutexes; ready = k .ready; waiting = q; started = k .started; hold = k .hold; running = k .running }
 
 abbrev pub withStarted : State → ℕ → State

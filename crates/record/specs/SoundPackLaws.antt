@@ -24,12 +24,12 @@ use Rattle.rules.specs.Sound.{soundb}
 use Rattle.rules.specs.Invariant.{Left, Timed, Facts, Inv}
 use Rattle.rules.specs.LevelLaws.{wait-out}
 use Rattle.rules.specs.SoundLaws.{sound-inv, inv-sound}
-use Rattle.queues.specs.Queue.{places, noId, queueOf, idOf}
-use Rattle.queues.specs.QueueLaws.{items-queueOf, rest-queueOf}
+use Rattle.task_lists.specs.TaskList.{places, noId, taskListOf, idOf}
+use Rattle.task_lists.specs.TaskListLaws.{items-taskListOf, rest-taskListOf}
 use Rattle.walks.specs.Walk.{taskAt}
 use Rattle.walks.specs.WalkLaws.{other-default}
 use Rattle.record.specs.Record.{dueAt, onMutex, onSemaphore, onTime, leftIn, waitIn, waitAt, viewTables, view, awaitedKind, awaitedObject, leftCode, kindCode, objectCode, timedCode, dueCode, packTasks, packMutexes, packSemaphores, pack}
-use Rattle.record.specs.SoundRecord.{usedTaskb, unusedTaskb, taskPlaceb, tasksTidyb, idb, mutexPlaceb, mutexesTidyb, semPlaceb, semaphoresTidyb, queueTidyb, tidyb, levelsb, soundOf}
+use Rattle.record.specs.SoundRecord.{usedTaskb, unusedTaskb, taskPlaceb, tasksTidyb, idb, mutexPlaceb, mutexesTidyb, semPlaceb, semaphoresTidyb, taskListTidyb, tidyb, levelsb, soundOf}
 use Rattle.record.specs.GoodRecord.{Typed}
 use Rattle.record.specs.PackLaws.{ticks-back, task-back, good-pack}
 use Rattle.record.specs.ReadLaws.{level-out, kind-read, object-read, timed-read, due-read, priority-read, level-read, outcome-read, owner-read, mutex-read, count-read, maximum-read, level-pack}
@@ -92,7 +92,7 @@ module _ (s : Model) (F : Facts (s .tables)) (word : s .clock < wordSize) where
       (take-pad maxTasks 0 (tasks (s .tables)) (s .tables .priorities) refl)
       (take-pad maxTasks 0 (tasks (s .tables)) (s .tables .outcomes) (F .outcome-column))
       waits-view
-      (items-queueOf (s .tables .waiting))
+      (items-taskListOf (s .tables .waiting))
       (take-pad maxMutexes 0 (mutexes (s .tables)) (s .tables .kinds) (F .kind-column))
       (ap (map taskAt) (take-pad maxMutexes noId (mutexes (s .tables)) (map idOf (s .tables .owners)) (length-map (s .tables .owners) idOf))
       ∙ owner-list (s .tables .owners) (λ m o e. omega (arith, F .owners m o e, F .few-tasks)))
@@ -113,7 +113,7 @@ module _ (s : Model) (I : Inv s) where
   -- what the packing of a sound state stands for is the state
   pub view-pack : view (pack s) ≡ s
   unfolding view pack
-  view-pack = same-model _ _ (tables-pack s (I .facts) (I .clock-in)) (flag-back (s .started)) refl refl (task-back (s .running) runner-low) (items-queueOf (s .ready))
+  view-pack = same-model _ _ (tables-pack s (I .facts) (I .clock-in)) (flag-back (s .started)) refl refl (task-back (s .running) runner-low) (items-taskListOf (s .ready))
 
   ready-fits : length (s .ready) ≤ maxTasks
   ready-fits = omega (arith, I .facts .few-tasks, pigeonhole (tasks (s .tables)) (s .ready) (λ y. omega (arith, ids-in y, below-le y (tasks (s .tables)))) (λ y m. in-below y (tasks (s .tables)) (omega (arith, ids-in y))))
@@ -214,9 +214,9 @@ module _ (t : Tables) (F : Facts t) (clock : ℕ) where
         )
   ]))
 
-queue-tidy : (l : List ℕ) → length l ≤ places → queueTidyb (queueOf l) ≡ true
-unfolding queueTidyb queueOf
-queue-tidy l h = true-and _ _ (le-leb (length l) places h) (rest-queueOf l)
+task-list-tidy : (l : List ℕ) → length l ≤ places → taskListTidyb (taskListOf l) ≡ true
+unfolding taskListTidyb taskListOf
+task-list-tidy l h = true-and _ _ (le-leb (length l) places h) (rest-taskListOf l)
 
 module _ (s : Model) (I : Inv s) where
   pub pack-tidy : tidyb (pack s) ≡ true
@@ -225,8 +225,8 @@ module _ (s : Model) (I : Inv s) where
       true-and _ _ (tasks-tidy (s .tables) (I .facts) (s .clock))
       (true-and _ _ (mutexes-tidy (s .tables) (I .facts) (s .clock))
       (true-and _ _ (semaphores-tidy (s .tables) (I .facts) (s .clock))
-      (true-and _ _ (queue-tidy (s .ready) (ready-fits s I))
-      (true-and _ _ (queue-tidy (s .tables .waiting) (waiting-fits s I))
+      (true-and _ _ (task-list-tidy (s .ready) (ready-fits s I))
+      (true-and _ _ (task-list-tidy (s .tables .waiting) (waiting-fits s I))
       (true-and _ _ (true-flag (s .started)) (true-id (s .running) (runner-low s I)))))))
 
   pub pack-levels : levelsb (pack s) ≡ true

@@ -7,13 +7,13 @@ use Rattle.lists.specs.Test.{_and_, _or_, allb}
 use Rattle.rules.specs.Sizes.{maxTasks, maxMutexes, maxSemaphores}
 use Rattle.rules.specs.Levels.{levelIn}
 use Rattle.rules.specs.Sound.{soundb}
-use Rattle.queues.specs.Queue.{places, noId}
+use Rattle.task_lists.specs.TaskList.{places, noId}
 use Rattle.record.specs.Record.{onMutex, onSemaphore, onTime, viewTables, view}
 use Rattle.record.specs.declared.State.{State}  -- keep
 use Rattle.record.specs.declared.Tasks.{Tasks}  -- keep
 use Rattle.record.specs.declared.Mutexes.{Mutexes}  -- keep
 use Rattle.record.specs.declared.Semaphores.{Semaphores}  -- keep
-use Rattle.queues.specs.declared.Queue.{Queue}  -- keep
+use Rattle.task_lists.specs.declared.TaskList.{TaskList}  -- keep
 
 -- the places of a task that is there: an object only for a wait on one, a due time only for a timed wait
 unfoldable pub usedTaskb : Tasks → ℕ → Bool
@@ -50,11 +50,11 @@ semPlaceb c k = ltb k (c .n) or (eqb (getD (c .count) k 0) 0 and eqb (getD (c .m
 unfoldable pub semaphoresTidyb : Semaphores → Bool
 semaphoresTidyb c = leb (c .n) maxSemaphores and allb maxSemaphores (semPlaceb c)
 
-unfoldable pub queueTidyb : Queue → Bool
-queueTidyb q = leb (q .n) places and allb places (λ i. ltb i (q .n) or eqb (getD (q .ids) i 0) noId)
+unfoldable pub taskListTidyb : TaskList → Bool
+taskListTidyb q = leb (q .n) places and allb places (λ i. ltb i (q .n) or eqb (getD (q .ids) i 0) noId)
 
 unfoldable pub tidyb : State → Bool
-tidyb k = tasksTidyb (k .tasks) and mutexesTidyb (k .mutexes) and semaphoresTidyb (k .semaphores) and queueTidyb (k .ready) and queueTidyb (k .waiting)
+tidyb k = tasksTidyb (k .tasks) and mutexesTidyb (k .mutexes) and semaphoresTidyb (k .semaphores) and taskListTidyb (k .ready) and taskListTidyb (k .waiting)
     and leb (k .started) 1 and idb (k .running)
 
 -- "stored levels as defined"

@@ -4,7 +4,7 @@ use mathlib.Core.Option.{Option, none}
 use Prim.Native.Nat.{ℕ}
 use lib.Dec.{leb}
 use Rattle.rules.specs.Step.{Step, task, mutex, sem, start, lock, unlock, pend, post, flush, sleep, yield, hold, free, tick, level, outcome}
-use Rattle.queues.specs.Queue.{idOf}
+use Rattle.task_lists.specs.TaskList.{idOf}
 use Rattle.record.specs.Record.{view, pack}
 use Rattle.record.specs.SoundRecord.{soundOf}
 use Rattle.record.specs.declared.State.{State}  -- keep

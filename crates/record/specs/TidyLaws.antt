@@ -8,9 +8,9 @@ use lib.ListN.{getD}
 use borrow.Author.Tests.{ltb-true, leb-true, eqb-true, not-true, lt-ltb, le-ltb, eq-eqb}
 use Rattle.lists.specs.TestLaws.{clash, and-l, and-r, or-true, all-true}
 use Rattle.rules.specs.Sizes.{maxTasks, maxMutexes, maxSemaphores}
-use Rattle.queues.specs.Queue.{places, noId}
+use Rattle.task_lists.specs.TaskList.{places, noId}
 use Rattle.record.specs.Record.{onTime}
-use Rattle.record.specs.SoundRecord.{usedTaskb, unusedTaskb, taskPlaceb, tasksTidyb, idb, mutexPlaceb, mutexesTidyb, semPlaceb, semaphoresTidyb, queueTidyb, tidyb}
+use Rattle.record.specs.SoundRecord.{usedTaskb, unusedTaskb, taskPlaceb, tasksTidyb, idb, mutexPlaceb, mutexesTidyb, semPlaceb, semaphoresTidyb, taskListTidyb, tidyb}
 use Rattle.record.specs.declared.State.{State}  -- keep
 
 module _ (k : State) (tidy : tidyb k ≡ true) where
@@ -27,11 +27,11 @@ module _ (k : State) (tidy : tidyb k ≡ true) where
   semaphores-fit = leb-true _ _ (and-l _ _ (and-l _ _ (and-r _ _ (and-r _ _ tidy))))
 
   pub ready-fits : k .ready .n ≤ places
-  unfolding tidyb queueTidyb
+  unfolding tidyb taskListTidyb
   ready-fits = leb-true _ _ (and-l _ _ (and-l _ _ (and-r _ _ (and-r _ _ (and-r _ _ tidy)))))
 
   pub waiting-fits : k .waiting .n ≤ places
-  unfolding tidyb queueTidyb
+  unfolding tidyb taskListTidyb
   waiting-fits = leb-true _ _ (and-l _ _ (and-l _ _ (and-r _ _ (and-r _ _ (and-r _ _ (and-r _ _ tidy))))))
 
   pub running-id : idb (k .running) ≡ true

@@ -17,7 +17,7 @@ use Rattle.chains.specs.Least.{leastLeading}
 use Rattle.rules.specs.Sizes.{maxTasks, maxMutexes, inheriting}
 use Rattle.rules.specs.Tables.{tasks, mutexes, semaphores, priorityOf, outcomeOf, waitOf, kindOf, ownerOf, countOf, maximumOf}
 use Rattle.rules.specs.Levels.{mutexAwaited, andThen, next, heirOf, lends, levelIn}
-use Rattle.queues.specs.Queue.{noId, keyOf}
+use Rattle.task_lists.specs.TaskList.{noId, keyOf}
 use Rattle.walks.specs.Walk.{taskAt, nextIn, raised}
 use Rattle.walks.specs.WalkLaws.{other-default, next-in, next-out, next-agrees, leading-own, raised-ext}
 use Rattle.record.specs.Record.{onMutex, onSemaphore, onTime, leftIn, waitIn, waitAt, viewTables}

@@ -9,13 +9,13 @@ use crate::Semaphores;
 use crate::State;
 use crate::TASKS;
 use crate::Tasks;
-use queues::Queue;
+use task_lists::TaskList;
 
 // "A fresh state is in set-up, with nothing made, clock and hold 0."
 pub fn fresh() -> State
     ensures { λ r. ⌜ r ≡ freshRecord ⌝ }
 {
-    let none = Queue {
+    let none = TaskList {
         ids: [NONE; TASKS],
         n: 0,
     };

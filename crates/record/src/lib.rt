@@ -5,8 +5,8 @@ pub mod reads;
 
 pub use first::fresh;
 
-// How many of each there can be. A queue has a place for each task.
-pub const TASKS: usize = queues::PLACES;
+// How many of each there can be. A list has a place for each task.
+pub const TASKS: usize = task_lists::PLACES;
 
 pub const MUTEXES: usize = 8;
 
@@ -20,7 +20,7 @@ pub const MAX_MUTEXES: u8 = MUTEXES as u8;
 pub const MAX_SEMAPHORES: u8 = SEMAPHORES as u8;
 
 // How many priorities and levels there are.
-pub const LEVELS: u8 = queues::LEVELS;
+pub const LEVELS: u8 = task_lists::LEVELS;
 
 // How many kinds of mutexes there are, and the kind that lends its waiters' levels to the owner.
 pub const KINDS: u8 = 2;
@@ -31,7 +31,7 @@ pub const INHERITING: u8 = 1;
 pub const MAX_HOLD: u8 = 255;
 
 // Stands for no task.
-pub const NONE: u8 = queues::NONE;
+pub const NONE: u8 = task_lists::NONE;
 
 // What a task waits for: nothing, a mutex, a semaphore, time.
 pub const NO_WAIT: u8 = 0;
@@ -89,8 +89,8 @@ pub struct State {
     pub semaphores: Semaphores,
     pub clock: u32,
     pub mutexes: Mutexes,
-    pub ready: queues::Queue,
-    pub waiting: queues::Queue,
+    pub ready: task_lists::TaskList,
+    pub waiting: task_lists::TaskList,
     pub started: u8,
     pub hold: u8,
     pub running: u8,

@@ -30,12 +30,12 @@ pub data Leads (h : Told) : ℕ → ℕ → Type 0 where
 
 -- "Waits form a ring if, in some row of one or more tasks, each waits for a mutex that the next owns, and the last for one that the first
 -- owns, mutexes of every kind counted.": the row x, l, where the last waits for one that y owns
-abbrev pub Row : Told → ℕ → List ℕ → ℕ → Type 0
-Row h x [] y = WaitsFor h x y
-Row h x (z ∷ l) y = WaitsFor h x z × Row h z l y
+abbrev pub WaitRow : Told → ℕ → List ℕ → ℕ → Type 0
+WaitRow h x [] y = WaitsFor h x y
+WaitRow h x (z ∷ l) y = WaitsFor h x z × WaitRow h z l y
 
 abbrev pub Ring : Told → ℕ → List ℕ → Type 0
-Ring h x l = Row h x l x
+Ring h x l = WaitRow h x l x
 
 -- "is ready if it neither runs nor waits"
 pub record Ready (h : Told) (i : ℕ) : Type 0 where
@@ -53,14 +53,14 @@ abbrev pub levelCall : ℕ → Option ℕ → Call
 levelCall i room = record { made = level i; room = room }
 
 -- the log line of an answer has room, where one is asked for
-abbrev pub Fits : Option ℕ → Answer → Type 0
-Fits none a = Unit
-Fits (some room) a = length (logLine a) ≤ room
+abbrev pub HasRoom : Option ℕ → Answer → Type 0
+HasRoom none a = Unit
+HasRoom (some room) a = length (logLine a) ≤ room
 
 -- what holds where the list of events tells h, and `answer` is what a further call is answered
 pub record Demand (h : Told) (answer : Call → Answer) : Type 0 where
   -- "After such a list `level` is accepted for it (its log line, where one is asked for, having room), and that value is its level."
-  pub levels : (i : ℕ) → i < tasksMade h → (room : Option ℕ) → Fits room (answer (levelCall i none))
+  pub levels : (i : ℕ) → i < tasksMade h → (room : Option ℕ) → HasRoom room (answer (levelCall i none))
       → ((answer (levelCall i room)) .number ≡ 0) × MostUrgent h i ((answer (levelCall i room)) .value)
   -- "no waits form a ring"
   pub no-ring : (x : ℕ) (l : List ℕ) → Ring h x l → ⊥

@@ -31,7 +31,7 @@ use Rattle.rules.specs.LevelLaws.{lends-ended}
 use Rattle.rules.specs.StepLaws.{caller-in, step-inv, fresh-inv}
 use Rattle.rules.specs.SoundLaws.{inv-sound}
 use Rattle.rules.specs.History.{Told, nothingTold, tasksMade, ownPriority, begunMutex, toldNext, toldHeir, toldLends, toldLevel, observe, toldFrom, told}
-use Rattle.rules.specs.Demand.{WaitsFor, LendsTo, Leads, to-owner, through, Row, Ready, MostUrgent, levelCall, Fits, Demand, events, after, Demand-3}
+use Rattle.rules.specs.Demand.{WaitsFor, LendsTo, Leads, to-owner, through, WaitRow, Ready, MostUrgent, levelCall, HasRoom, Demand, events, after, Demand-3}
 use Rattle.rules.specs.RefusalLaws.{call-by}
 use Rattle.rules.specs.AgreeLaws.{asWait, Agrees, fresh-agrees, next-told, lends-told, level-told, eventOf, call-agrees}
 
@@ -76,7 +76,7 @@ module _ (h : Told) where
     | inr q ↦ through (next-lends k (r .0) (r .1)) q
   ]))
 
-  row-from : (x : ℕ) (l : List ℕ) (y : ℕ) → Row h x l y → From (toldNext h) (toldNext h x) y
+  row-from : (x : ℕ) (l : List ℕ) (y : ℕ) → WaitRow h x l y → From (toldNext h) (toldNext h x) y
   row-from x [] y w = rw (waits-next x y w) here
   row-from x (z ∷ l) y w = rw (waits-next x z (w .0)) (on {i = z} {k = y} (row-from z l y (w .1)))
 
@@ -89,7 +89,7 @@ module _ (s : State) (h : Told) (I : Inv s) (A : Agrees s h) where
   as-many : tasksMade h ≡ tasks (s .tables)
   as-many = ap length (A .tables .priorities)
 
-  level-call : (i : ℕ) → i < tasksMade h → (room : Option ℕ) → Fits room (call s (levelCall i none))
+  level-call : (i : ℕ) → i < tasksMade h → (room : Option ℕ) → HasRoom room (call s (levelCall i none))
       → call s (levelCall i room) ≡ answered (finish s (done s [] (levelOf s i))) 0 (levelOf s i)
   unfolding call inRoom withRoom
   level-call i low none fits = level-answer s I i (omega (arith, as-many))

@@ -6,7 +6,7 @@ use Prim.Native.Nat.{ℕ}
 use lib.ListN.{replicate}
 use Rattle.lists.specs.Test.{_and_, _or_, allb, someb, holds}
 use Rattle.lists.specs.Count.{eqn, occ}
-use Rattle.lists.specs.Order.{keep, upTo, byId, place, insertTail, insertHead, insertAll, stable, ascb, tiesb, firstAt, orElse, firstFrom, before, inside}
+use Rattle.lists.specs.Order.{keep, range, byId, place, insertTail, insertHead, insertAll, stable, ascb, tiesb, firstAt, orElse, firstFrom, before, inside}
 use Rattle.lists.specs.Table.{edit}
 use Rattle.chains.specs.Chain.{walk, endsb}
 use Rattle.chains.specs.Least.{least, leadsTo, leastLeading}
@@ -104,7 +104,7 @@ cases = session ∷ nestedLocks ∷ []
 
 -- from a fresh state, the rules give each script the log beside it; unfolded is all that a step is made of, its test of soundness included
 pub cases-agree : map (λ c. replay fresh (map (λ l. l .made) c)) cases ≡ map (λ c. map (λ l. l .logged) c) cases
-unfolding cases session nestedLocks replay _and_ _or_ allb someb holds eqn occ keep upTo byId place insertTail insertHead insertAll stable ascb tiesb
+unfolding cases session nestedLocks replay _and_ _or_ allb someb holds eqn occ keep range byId place insertTail insertHead insertAll stable ascb tiesb
     firstAt orElse firstFrom before inside edit walk endsb least leadsTo leastLeading mutexIn mutexAwaited andThen next lends levelIn chainOf
     sameAwaited waitIsFor waitersOf bestWaiter fresh ticksOf callerWaits lockBy passOn pendBy credit flushOf isDue expiry outcomeDue lessOne age
     tickOf yieldBy called effect settledReady meet dispatch finish ofCaller linksFor refusals firstRow columnsb sizesb rangesb clockb waitCount

@@ -17,9 +17,9 @@ use Rattle.script.specs.declared.run.Ran.{Ran}
 use Rattle.script.specs.declared.run.Headed.{Headed}
 
 -- what a line is answered: 14, "line not of the form below", which comes before every other number; else what the step is answered
-unfoldable pub answered : State → Option Step → Out
-answered k none = stays k 14 0 (standingIn k)
-answered k (some x) = stepOf k (requestFor x)
+unfoldable pub lineAnswered : State → Option Step → Out
+lineAnswered k none = stays k 14 0 (standingIn k)
+lineAnswered k (some x) = stepOf k (requestFor x)
 
 -- "one line for each script line: answer, value, running task or `-`"
 abbrev pub lineFor : Answer → List ℕ
@@ -36,11 +36,11 @@ reported k o memory =
     cond (room memory 0 (lineFor (o .answer))) (ranWith o (length (lineFor (o .answer)))) (ranWith (stays k 8 0 (standingIn k)) 0)
 
 unfoldable pub ranLine : State → List ℕ → List ℕ → Ran
-ranLine k line memory = reported k (answered k (stepOn line)) memory
+ranLine k line memory = reported k (lineAnswered k (stepOn line)) memory
 
 -- "A log line is written at the front of the lent memory; bytes after it stay, and with the log's 8 all stay"
 unfoldable pub memoryLine : State → List ℕ → List ℕ → List ℕ
-memoryLine k line memory = putBytes memory 0 (lineFor ((answered k (stepOn line)) .answer))
+memoryLine k line memory = putBytes memory 0 (lineFor ((lineAnswered k (stepOn line)) .answer))
 
 -- where a script stands: its first line is awaited; steps are run; its first line was bad, and nothing more is written
 abbrev pub awaiting : ℕ

@@ -33,7 +33,7 @@ use Rattle.syntax.specs.Form.{sameBytes, stepOn}
 use Rattle.syntax.specs.LogLine.{lineBytes, headerBytes, logBytes, badBytes}
 use Rattle.syntax.specs.Reading.{readingFor}
 use Rattle.syntax.specs.declared.read.Reading.the-variants.{Made, Malformed}
-use Rattle.script.specs.LineRun.{awaiting, running, over, answered, lineFor, ranWith, reported, ranLine, memoryLine, headLog, headStage, headed}
+use Rattle.script.specs.LineRun.{awaiting, running, over, lineAnswered, lineFor, ranWith, reported, ranLine, memoryLine, headLog, headStage, headed}
 use Rattle.script.specs.Pieces.{lineRoom}
 use Rattle.script.specs.declared.run.Ran.{Ran}
 
@@ -50,13 +50,13 @@ either true o p n m = refl
 either false o p n m = refl
 
 -- by what was read: a step's request, or nothing of the form
-pub read-made : (k : State) (o : Option Step) (x : Request) → readingFor o ≡ Made x → answered k o ≡ stepOf k x
-unfolding readingFor answered
+pub read-made : (k : State) (o : Option Step) (x : Request) → readingFor o ≡ Made x → lineAnswered k o ≡ stepOf k x
+unfolding readingFor lineAnswered
 read-made k none x e = absurd (let z : _≡_ {A = ℕ} 0 1 = cc in omega arith)
 read-made k (some y) x e = ap (stepOf k) (cc)
 
-pub read-none : (k : State) (o : Option Step) → readingFor o ≡ Malformed → answered k o ≡ stays k 14 0 (standingIn k)
-unfolding readingFor answered
+pub read-none : (k : State) (o : Option Step) → readingFor o ≡ Malformed → lineAnswered k o ≡ stays k 14 0 (standingIn k)
+unfolding readingFor lineAnswered
 read-none k none e = refl
 read-none k (some y) e = absurd (let z : _≡_ {A = ℕ} 0 1 = cc in omega arith)
 
@@ -66,20 +66,20 @@ from-front l = omega arith
 module _ (k : State) (line memory : List ℕ) where
   -- a line that is a step: the call of demand 3's list, with a log line in memory of that length
   pub step-call : (x : Step) → stepOn line ≡ some x → outOf (ranLine k line memory) ≡ callRecord k (record { made = x; room = some (length memory) })
-  unfolding ranLine answered reported callRecord inMemory
+  unfolding ranLine lineAnswered reported callRecord inMemory
   step-call x is = rw is (either (room memory 0 (lineFor ((stepOf k (requestFor x)) .answer))) (stepOf k (requestFor x)) (stays k 8 0 (standingIn k)) _ _
       ∙ ap (λ l. cond (room memory 0 l) (stepOf k (requestFor x)) (stays k 8 0 (standingIn k))) (line-ruled (stepOf k (requestFor x)))
       ∙ ap (λ n. cond (leb n (length memory)) (stepOf k (requestFor x)) (stays k 8 0 (standingIn k))) (from-front (logLine (readOut (stepOf k (requestFor x))))))
 
   -- the lent memory is as the rules leave it
-  pub memory-ruled : memoryLine k line memory ≡ memoryAfter (readOut (answered k (stepOn line))) memory
+  pub memory-ruled : memoryLine k line memory ≡ memoryAfter (readOut (lineAnswered k (stepOn line))) memory
   unfolding memoryLine memoryAfter putBytes
-  memory-ruled = ap (λ l. cond (leb (0 + length l) (length memory)) (l ++ drop (0 + length l) memory) memory) (line-ruled (answered k (stepOn line)))
-      ∙ ap (λ n. cond (leb n (length memory)) (logLine (readOut (answered k (stepOn line))) ++ drop n memory) memory) (from-front (logLine (readOut (answered k (stepOn line)))))
+  memory-ruled = ap (λ l. cond (leb (0 + length l) (length memory)) (l ++ drop (0 + length l) memory) memory) (line-ruled (lineAnswered k (stepOn line)))
+      ∙ ap (λ n. cond (leb n (length memory)) (logLine (readOut (lineAnswered k (stepOn line))) ++ drop n memory) memory) (from-front (logLine (readOut (lineAnswered k (stepOn line)))))
 
   -- a malformed line changes nothing
   pub malformed-stays : stepOn line ≡ none → (ranLine k line memory) .state ≡ k
-  unfolding ranLine answered reported stays
+  unfolding ranLine lineAnswered reported stays
   malformed-stays is = rw is (ap (λ o. o .state) (either (room memory 0 (lineFor ((stays k 14 0 (standingIn k)) .answer))) (stays k 14 0 (standingIn k)) (stays k 8 0 (standingIn k)) _ _)
       ∙ same (room memory 0 (lineFor ((stays k 14 0 (standingIn k)) .answer))))
     where
@@ -100,8 +100,8 @@ stands-ruled : (k : State) → soundOf k ≡ true → standingIn k ≡ standing 
 unfolding standingIn standing
 stands-ruled k e = rw (e, view-sound k e) (sym (view-runs k))
 
-pub malformed-ruled : (k : State) → Typed k → soundOf k ≡ true → answered k none ≡ outFor (malformed (view k))
-unfolding answered stays outFor answerFor malformed
+pub malformed-ruled : (k : State) → Typed k → soundOf k ≡ true → lineAnswered k none ≡ outFor (malformed (view k))
+unfolding lineAnswered stays outFor answerFor malformed
 malformed-ruled k T e = ap (stays k 14 0) (stands-ruled k e) ∙ ap (λ z. stays z 14 0 (standing (view k))) (sym (sound-pack k e T))
 
 -- by what became of the log line: it was written, or it had no room

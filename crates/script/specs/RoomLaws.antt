@@ -10,40 +10,40 @@ use lib.ListN.{length, take, drop, take-append-drop, length-append, length-drop}
 use lib.Seq.{length-take-le, drop-drop, drop-at}
 use borrow.Author.Tests.{le-leb}
 use Rattle.lists.specs.TestLaws.{which, by-test}
-use Rattle.arrive.specs.Arrive.{Event}
+use Rattle.arrive.specs.Arrive.{Arrival}
 use Rattle.text.specs.Place.{room, putBytes, laid}
 use Rattle.text.specs.PlaceLaws.{put-laid, length-put, take-laid}
 use Rattle.record.specs.declared.State.{State}
 use Rattle.syntax.specs.Ascii.{ascii}
 use Rattle.syntax.specs.Form.{sameBytes, stepOn}
 use Rattle.syntax.specs.LogLine.{headerBytes, logBytes, badBytes}
-use Rattle.script.specs.LineRun.{awaiting, running, answered, lineFor, reported, ranLine, memoryLine, headLog, headStage, headed, memoryHead}
+use Rattle.script.specs.LineRun.{awaiting, running, lineAnswered, lineFor, reported, ranLine, memoryLine, headLog, headStage, headed, memoryHead}
 use Rattle.script.specs.LineRunLaws.{line-room}
-use Rattle.script.specs.Session.{taken, takenMemory, Stand, stood, takeLine, lineIn, takeAll}
+use Rattle.script.specs.Session.{lineTaken, takenMemory, Stand, stood, takeLine, lineIn, takeAll}
 use Rattle.script.specs.Pieces.{lineRoom, written}
 
 -- what a line puts into the log where it has room, and the record and the stage after it
 unfoldable pub lineLog : State → ℕ → List ℕ → List ℕ
-lineLog k stage line = cond (eqb stage running) (lineFor ((answered k (stepOn line)) .answer)) (cond (eqb stage awaiting) (headLog line) [])
+lineLog k stage line = cond (eqb stage running) (lineFor ((lineAnswered k (stepOn line)) .answer)) (cond (eqb stage awaiting) (headLog line) [])
 
 unfoldable pub lineState : State → ℕ → List ℕ → State
-lineState k stage line = cond (eqb stage running) ((answered k (stepOn line)) .state) k
+lineState k stage line = cond (eqb stage running) ((lineAnswered k (stepOn line)) .state) k
 
 unfoldable pub lineStage : ℕ → List ℕ → ℕ
 lineStage stage line = cond (eqb stage running) stage (cond (eqb stage awaiting) (headStage line) stage)
 
 -- and the same of a row of lines
-unfoldable pub eventsLog : State → ℕ → List Event → List ℕ
-eventsLog k stage [] = []
-eventsLog k stage (e ∷ es) = lineLog k stage (lineIn e) ++ eventsLog (lineState k stage (lineIn e)) (lineStage stage (lineIn e)) es
+unfoldable pub arrivalsLog : State → ℕ → List Arrival → List ℕ
+arrivalsLog k stage [] = []
+arrivalsLog k stage (e ∷ es) = lineLog k stage (lineIn e) ++ arrivalsLog (lineState k stage (lineIn e)) (lineStage stage (lineIn e)) es
 
-unfoldable pub eventsState : State → ℕ → List Event → State
-eventsState k stage [] = k
-eventsState k stage (e ∷ es) = eventsState (lineState k stage (lineIn e)) (lineStage stage (lineIn e)) es
+unfoldable pub arrivalsState : State → ℕ → List Arrival → State
+arrivalsState k stage [] = k
+arrivalsState k stage (e ∷ es) = arrivalsState (lineState k stage (lineIn e)) (lineStage stage (lineIn e)) es
 
-unfoldable pub eventsStage : ℕ → List Event → ℕ
-eventsStage stage [] = stage
-eventsStage stage (e ∷ es) = eventsStage (lineStage stage (lineIn e)) es
+unfoldable pub arrivalsStage : ℕ → List Arrival → ℕ
+arrivalsStage stage [] = stage
+arrivalsStage stage (e ∷ es) = arrivalsStage (lineStage stage (lineIn e)) es
 
 log-length : length logBytes ≤ lineRoom
 unfolding logBytes ascii
@@ -89,18 +89,18 @@ pub length-laid : (memory : List ℕ) (w : ℕ) (a : List ℕ) → w + length a 
 length-laid memory w a h = rw (put-laid memory w a h) at (length-put memory w a)
 
 module _ (k : State) (stage : ℕ) (line memory : List ℕ) (fits : lineRoom ≤ length memory) where
-  line-fits : room memory 0 (lineFor ((answered k (stepOn line)) .answer)) ≡ true
+  line-fits : room memory 0 (lineFor ((lineAnswered k (stepOn line)) .answer)) ≡ true
   line-fits =
-      let log = lineFor ((answered k (stepOn line)) .answer) in
+      let log = lineFor ((lineAnswered k (stepOn line)) .answer) in
       let short : length log ≤ lineRoom = line-room _ _ _ in
       le-leb (0 + length log) (length memory) (omega (arith, short, fits))
 
   head-fits : room memory 0 (headLog line) ≡ true
   head-fits = le-leb (0 + length (headLog line)) (length memory) (omega (arith, head-room line, fits))
 
-  taken-room : taken k stage line memory ≡ record { state = lineState k stage line; stage = lineStage stage line; written = length (lineLog k stage line) }
-  unfolding taken ranLine reported headed lineState lineStage lineLog
-  taken-room = elim (which (eqb stage running)) [
+  lineTaken-room : lineTaken k stage line memory ≡ record { state = lineState k stage line; stage = lineStage stage line; written = length (lineLog k stage line) }
+  unfolding lineTaken ranLine reported headed lineState lineStage lineLog
+  lineTaken-room = elim (which (eqb stage running)) [
     | inl e ↦ rw (e, line-fits)
     | inr e ↦ elim (which (eqb stage awaiting)) [ inl f ↦ rw (e, f, head-fits) | inr f ↦ rw (e, f) ]
   ]
@@ -121,33 +121,33 @@ pub line-stands : (x : Stand) (line : List ℕ) → x .written + lineRoom ≤ le
 unfolding takeLine
 line-stands x line h =
     let fits : lineRoom ≤ length (drop (x .written) (x .memory)) = omega (arith, length-drop (x .written) (x .memory)) in
-    ap (λ t. stood x t (takenMemory (x .state) (x .stage) line (drop (x .written) (x .memory)))) (taken-room (x .state) (x .stage) line (drop (x .written) (x .memory)) fits)
+    ap (λ t. stood x t (takenMemory (x .state) (x .stage) line (drop (x .written) (x .memory)))) (lineTaken-room (x .state) (x .stage) line (drop (x .written) (x .memory)) fits)
     ∙ ap (λ m. standWith m) (ap (λ m. take (x .written) (x .memory) ++ m) (memory-room (x .state) (x .stage) line (drop (x .written) (x .memory)) fits) ∙ laid-behind (x .memory) (x .written) (lineLog (x .state) (x .stage) line))
   where
     standWith : List ℕ → Stand
     standWith m = record { state = lineState (x .state) (x .stage) line; stage = lineStage (x .stage) line; memory = m; written = x .written + length (lineLog (x .state) (x .stage) line) }
 
 -- a row of lines with room
-pub events-stand : (es : List Event) (x : Stand) → x .written + lineRoom * length es ≤ length (x .memory)
-    → takeAll x es ≡ standAfter x (eventsState (x .state) (x .stage) es) (eventsStage (x .stage) es) (eventsLog (x .state) (x .stage) es)
-unfolding takeAll eventsState eventsStage eventsLog
-events-stand [] x h =
+pub arrivals-stand : (es : List Arrival) (x : Stand) → x .written + lineRoom * length es ≤ length (x .memory)
+    → takeAll x es ≡ standAfter x (arrivalsState (x .state) (x .stage) es) (arrivalsStage (x .stage) es) (arrivalsLog (x .state) (x .stage) es)
+unfolding takeAll arrivalsState arrivalsStage arrivalsLog
+arrivals-stand [] x h =
     let z : x .written + 0 ≡ x .written = omega arith in
     λ i. record { state = x .state; stage = x .stage; memory = sym (laid-nil (x .memory) (x .written)) i; written = sym z i }
-events-stand (e ∷ es) x h =
+arrivals-stand (e ∷ es) x h =
     let k = lineState (x .state) (x .stage) (lineIn e) in
     let stage = lineStage (x .stage) (lineIn e) in
     let a = lineLog (x .state) (x .stage) (lineIn e) in
-    let b = eventsLog k stage es in
+    let b = arrivalsLog k stage es in
     let short : length a ≤ lineRoom = log-room (x .state) (x .stage) (lineIn e) in
     let now : x .written + length a ≤ length (x .memory) = omega arith in
     let far : x .written + length a + length b ≡ x .written + length (a ++ b) = omega (arith, length-append a b) in
     let rest : length (laid (x .memory) (x .written) a) ≡ length (x .memory) = length-laid (x .memory) (x .written) a now in
     let line = line-stands x (lineIn e) (omega arith) in
-    ap (λ y. takeAll y es) line ∙ events-stand es (standAfter x k stage a) (omega (arith, rest))
+    ap (λ y. takeAll y es) line ∙ arrivals-stand es (standAfter x k stage a) (omega (arith, rest))
     ∙ (λ i. record {
-      state = eventsState k stage es;
-      stage = eventsStage stage es;
+      state = arrivalsState k stage es;
+      stage = arrivalsStage stage es;
       memory = laid-laid (x .memory) (x .written) a b now i;
       written = far i;
     })
@@ -158,11 +158,11 @@ pub written-after : (x : Stand) (k : State) (stage : ℕ) (log : List ℕ) → x
 written-after x k stage log h = take-laid (x .memory) (x .written) log h
 
 -- the log of a row of lines is not longer than its room
-pub events-room : (es : List Event) (k : State) (stage : ℕ) → length (eventsLog k stage es) ≤ lineRoom * length es
-unfolding eventsLog
-events-room [] k stage = omega arith
-events-room (e ∷ es) k stage =
+pub arrivals-room : (es : List Arrival) (k : State) (stage : ℕ) → length (arrivalsLog k stage es) ≤ lineRoom * length es
+unfolding arrivalsLog
+arrivals-room [] k stage = omega arith
+arrivals-room (e ∷ es) k stage =
     let a = lineLog k stage (lineIn e) in
-    let b = eventsLog (lineState k stage (lineIn e)) (lineStage stage (lineIn e)) es in
-    let more : length b ≤ lineRoom * length es = events-room es (lineState k stage (lineIn e)) (lineStage stage (lineIn e)) in
+    let b = arrivalsLog (lineState k stage (lineIn e)) (lineStage stage (lineIn e)) es in
+    let more : length b ≤ lineRoom * length es = arrivals-room es (lineState k stage (lineIn e)) (lineStage stage (lineIn e)) in
     omega (arith, log-room k stage (lineIn e), length-append a b, more)

@@ -4,9 +4,9 @@ use mathlib.Core.List.{List, [], _∷_, _++_}
 use mathlib.Core.Bool.{cond}
 use lib.Dec.{eqb}
 use lib.ListN.{length, take, drop}
-use Rattle.arrive.specs.Arrive.{Event, Line, Long}
+use Rattle.arrive.specs.Arrive.{Arrival, Line, Long}
 use Rattle.arrive.specs.Calls.{Calls, calls}
-use Rattle.arrive.specs.Feed.{lastFound, eventsOf}
+use Rattle.arrive.specs.Feed.{lastFound, arrivalsOf}
 use Rattle.arrive.specs.declared.Fed.{Fed}
 use Rattle.record.specs.DemandRecord.{freshRecord}
 use Rattle.record.specs.declared.State.{State}
@@ -21,8 +21,8 @@ unfoldable pub freshSession : Session
 freshSession = record { state = freshRecord; stage = awaiting; held = 0 }
 
 -- one line: the first line, a step, or a line after a bad first line, which is passed over
-unfoldable pub taken : State → ℕ → List ℕ → List ℕ → Taken
-taken k stage line memory =
+unfoldable pub lineTaken : State → ℕ → List ℕ → List ℕ → Taken
+lineTaken k stage line memory =
     cond (eqb stage running)
     (record { state = (ranLine k line memory) .state; stage = stage; written = (ranLine k line memory) .written })
     (cond (eqb stage awaiting)
@@ -35,16 +35,16 @@ takenMemory k stage line memory =
     cond (eqb stage running) (memoryLine k line memory) (cond (eqb stage awaiting) (memoryHead line memory) memory)
 
 -- an over-long line is neither a step nor the first line, as an empty one is none
-unfoldable pub lineIn : Event → List ℕ
+unfoldable pub lineIn : Arrival → List ℕ
 lineIn (Line l) = l
 lineIn Long = []
 
 -- where a line's end was found, its line, and else nothing
-unfoldable pub foundTaken : State → ℕ → List Event → List ℕ → Taken
+unfoldable pub foundTaken : State → ℕ → List Arrival → List ℕ → Taken
 foundTaken k stage [] memory = record { state = k; stage = stage; written = 0 }
-foundTaken k stage (e ∷ es) memory = taken k stage (lineIn e) memory
+foundTaken k stage (e ∷ es) memory = lineTaken k stage (lineIn e) memory
 
-unfoldable pub foundMemory : State → ℕ → List Event → List ℕ → List ℕ
+unfoldable pub foundMemory : State → ℕ → List Arrival → List ℕ → List ℕ
 foundMemory k stage [] memory = memory
 foundMemory k stage (e ∷ es) memory = takenMemory k stage (lineIn e) memory
 
@@ -52,7 +52,7 @@ abbrev pub turnWith : Fed → Taken → Turn
 turnWith f t = record { state = t .state; stage = t .stage; held = f .held; next = f .next; written = t .written }
 
 unfoldable pub turned : State → ℕ → Fed → List ℕ → List ℕ → List ℕ → Turn
-turned k stage f carry bytes memory = turnWith f (foundTaken k stage (eventsOf carry bytes (f .found)) memory)
+turned k stage f carry bytes memory = turnWith f (foundTaken k stage (arrivalsOf carry bytes (f .found)) memory)
 
 -- the record, where the script stands, the lent memory, and how many bytes of it are written
 pub record Stand : Type 0 where
@@ -68,9 +68,9 @@ stood x t rest = record { state = t .state; stage = t .stage; memory = take (x .
 unfoldable pub takeLine : Stand → List ℕ → Stand
 takeLine x line =
     let free = drop (x .written) (x .memory) in
-    stood x (taken (x .state) (x .stage) line free) (takenMemory (x .state) (x .stage) line free)
+    stood x (lineTaken (x .state) (x .stage) line free) (takenMemory (x .state) (x .stage) line free)
 
-unfoldable pub takeAll : Stand → List Event → Stand
+unfoldable pub takeAll : Stand → List Arrival → Stand
 takeAll x [] = x
 takeAll x (e ∷ es) = takeAll (takeLine x (lineIn e)) es
 
@@ -87,26 +87,26 @@ unfoldable pub through : List ℕ → ℕ → Stand → List ℕ → ℕ → Thr
 through bytes at x carry held = along x (calls (length bytes) carry held bytes at)
 
 -- a session with nothing written yet
-abbrev pub begins : Session → List ℕ → Stand
-begins s memory = record { state = s .state; stage = s .stage; memory = memory; written = 0 }
+abbrev pub standFor : Session → List ℕ → Stand
+standFor s memory = record { state = s .state; stage = s .stage; memory = memory; written = 0 }
 
 abbrev pub movedTo : Through → Moved
 movedTo t = record { session = record { state = t .stand .state; stage = t .stand .stage; held = t .held }; written = t .stand .written }
 
 -- a whole piece, with lent memory for its log lines
 unfoldable pub pieceRun : Session → List ℕ → List ℕ → List ℕ → Through
-pieceRun s carry bytes memory = through bytes 0 (begins s memory) carry (s .held)
+pieceRun s carry bytes memory = through bytes 0 (standFor s memory) carry (s .held)
 
 -- nothing more arrives: a last line without LF counts; a script with no line at all has no first line, and is answered as with an empty one
-unfoldable pub lastEvents : ℕ → List Event → List Event
-lastEvents stage [] = cond (eqb stage awaiting) (Line [] ∷ []) []
-lastEvents stage (e ∷ es) = e ∷ es
+unfoldable pub lastArrivals : ℕ → List Arrival → List Arrival
+lastArrivals stage [] = cond (eqb stage awaiting) (Line [] ∷ []) []
+lastArrivals stage (e ∷ es) = e ∷ es
 
-unfoldable pub leftEvents : ℕ → List ℕ → ℕ → List Event
-leftEvents stage carry held = lastEvents stage (eventsOf carry [] (lastFound carry held))
+unfoldable pub leftArrivals : ℕ → List ℕ → ℕ → List Arrival
+leftArrivals stage carry held = lastArrivals stage (arrivalsOf carry [] (lastFound carry held))
 
 unfoldable pub endRun : Session → List ℕ → List ℕ → Stand
-endRun s carry memory = takeAll (begins s memory) (leftEvents (s .stage) carry (s .held))
+endRun s carry memory = takeAll (standFor s memory) (leftArrivals (s .stage) carry (s .held))
 
 abbrev pub endTo : Stand → Moved
 endTo x = record { session = record { state = x .state; stage = x .stage; held = 0 }; written = x .written }

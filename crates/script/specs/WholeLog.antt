@@ -10,16 +10,16 @@ use Rattle.record.specs.DemandRecord.{freshRecord}
 use Rattle.record.specs.declared.State.{State}
 use Rattle.syntax.specs.Form.{sameBytes, stepOn}
 use Rattle.syntax.specs.LogLine.{headerBytes, logBytes, badBytes}
-use Rattle.script.specs.LineRun.{answered, lineFor}
+use Rattle.script.specs.LineRun.{lineAnswered, lineFor}
 
 -- "one line for each script line": each is run on the record that the one before it left
 unfoldable pub logFrom : State → List (List ℕ) → List ℕ
 logFrom k [] = []
-logFrom k (l ∷ ls) = lineFor ((answered k (stepOn l)) .answer) ++ logFrom ((answered k (stepOn l)) .state) ls
+logFrom k (l ∷ ls) = lineFor ((lineAnswered k (stepOn l)) .answer) ++ logFrom ((lineAnswered k (stepOn l)) .state) ls
 
 unfoldable pub recordFrom : State → List (List ℕ) → State
 recordFrom k [] = k
-recordFrom k (l ∷ ls) = recordFrom ((answered k (stepOn l)) .state) ls
+recordFrom k (l ∷ ls) = recordFrom ((lineAnswered k (stepOn l)) .state) ls
 
 -- "The first line is `kernel`, tab, `1`; else the whole log is the line `bad`, tab, `1`"; a script with no line has no first line
 unfoldable pub logOf : List (List ℕ) → List ℕ

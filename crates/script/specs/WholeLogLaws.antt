@@ -12,16 +12,16 @@ use Rattle.record.specs.DemandRecord.{freshRecord, inMemory, callRecord, events
 use Rattle.record.specs.DemandRecordLaws.{demand-3-record}
 use Rattle.record.specs.declared.State.{State}
 use Rattle.syntax.specs.Form.{stepOn}
-use Rattle.script.specs.LineRun.{answered}
+use Rattle.script.specs.LineRun.{lineAnswered}
 use Rattle.script.specs.WholeLog.{recordFrom, withCall, callsIn}
 
 -- the record that the lines leave is the one that the calls leave
 pub record-calls : (ls : List (List ℕ)) (k : State) → recordFrom k ls ≡ afterRecord k (callsIn ls)
-unfolding recordFrom afterRecord callsIn answered withCall callRecord inMemory stays
+unfolding recordFrom afterRecord callsIn lineAnswered withCall callRecord inMemory stays
 record-calls [] k = refl
-record-calls (l ∷ ls) k = record-calls ls ((answered k (stepOn l)) .state) ∙ first (stepOn l)
+record-calls (l ∷ ls) k = record-calls ls ((lineAnswered k (stepOn l)) .state) ∙ first (stepOn l)
   where
-    first : (o : Option Step) → afterRecord ((answered k o) .state) (callsIn ls) ≡ afterRecord k (withCall o (callsIn ls))
+    first : (o : Option Step) → afterRecord ((lineAnswered k o) .state) (callsIn ls) ≡ afterRecord k (withCall o (callsIn ls))
     first none = refl
     first (some x) = refl
 

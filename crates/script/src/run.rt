@@ -4,7 +4,7 @@ ghost use Rattle.text.specs.Place.{putAnswer, putBytes};
 ghost use Rattle.record.specs.StepRecord.{stays};
 ghost use Rattle.record.specs.DemandRecord.{standingIn};
 ghost use Rattle.syntax.specs.Form.{stepOn};
-ghost use Rattle.script.specs.LineRun.{answered, lineFor, ranWith, ranLine, memoryLine, headed, memoryHead};
+ghost use Rattle.script.specs.LineRun.{lineAnswered, lineFor, ranWith, ranLine, memoryLine, headed, memoryHead};
 use record::Answer;
 use record::Out;
 use record::State;
@@ -35,7 +35,7 @@ pub struct Headed {
 
 // The line's step made, or 14.
 fn answer_line(s: State, line: &[u8]) -> Out
-    ensures { λ r. ⌜ r ≡ answered s (stepOn (now (line .entry))) ⌝ }
+    ensures { λ r. ⌜ r ≡ lineAnswered s (stepOn (now (line .entry))) ⌝ }
 {
     let reading = read::read_line(line);
     let Reading::Made(request) = reading else {

@@ -1,7 +1,7 @@
 // A script whose bytes arrive in any pieces, run line by line.
 ghost use mathlib.Core.Path.{_≡_};
-ghost use Rattle.arrive.specs.Feed.{fed, carryAfter, eventsOf};
-ghost use Rattle.script.specs.Session.{freshSession, taken, takenMemory, foundTaken, foundMemory, turned, pieceRun, movedTo, leftEvents, endRun, endTo};
+ghost use Rattle.arrive.specs.Feed.{fed, carryAfter, arrivalsOf};
+ghost use Rattle.script.specs.Session.{freshSession, lineTaken, takenMemory, foundTaken, foundMemory, turned, pieceRun, movedTo, leftArrivals, endRun, endTo};
 use crate::run;
 use crate::run::AWAITING;
 use crate::run::RUNNING;
@@ -39,7 +39,7 @@ struct Turn {
 
 // The first line, a step, or a line after a bad first line, which is passed over.
 fn take(s: State, stage: u8, line: &[u8], log: &mut [u8]) -> Taken
-    ensures answer { λ r. ⌜ r ≡ taken s stage (now (line .entry)) (now (log .entry)) ⌝ }
+    ensures answer { λ r. ⌜ r ≡ lineTaken s stage (now (line .entry)) (now (log .entry)) ⌝ }
     ensures memory { λ r. ⌜ now (log .exit) ≡ takenMemory s stage (now (line .entry)) (now (log .entry)) ⌝ }
 {
     if stage == RUNNING {
@@ -75,8 +75,8 @@ fn take_found<'a>(
     found: Found,
     log: &mut [u8],
 ) -> Taken
-    ensures answer { λ r. ⌜ r ≡ foundTaken s stage (eventsOf (now (carry .entry)) (now (bytes .entry)) found) (now (log .entry)) ⌝ }
-    ensures memory { λ r. ⌜ now (log .exit) ≡ foundMemory s stage (eventsOf (now (carry .entry)) (now (bytes .entry)) found) (now (log .entry)) ⌝ }
+    ensures answer { λ r. ⌜ r ≡ foundTaken s stage (arrivalsOf (now (carry .entry)) (now (bytes .entry)) found) (now (log .entry)) ⌝ }
+    ensures memory { λ r. ⌜ now (log .exit) ≡ foundMemory s stage (arrivalsOf (now (carry .entry)) (now (bytes .entry)) found) (now (log .entry)) ⌝ }
 {
     let line = arrive::line(carry, bytes, found);
     match found {
@@ -103,7 +103,7 @@ fn next_line(
 ) -> Turn
     ensures answer { λ r. ⌜ r ≡ turned s stage (fed (now (carry .entry)) held (now (bytes .entry)) at) (carryAfter (now (carry .entry)) held (now (bytes .entry)) at) (now (bytes .entry)) (now (log .entry)) ⌝ }
     ensures carried { λ r. ⌜ now (carry .exit) ≡ carryAfter (now (carry .entry)) held (now (bytes .entry)) at ⌝ }
-    ensures memory { λ r. ⌜ now (log .exit) ≡ foundMemory s stage (eventsOf (carryAfter (now (carry .entry)) held (now (bytes .entry)) at) (now (bytes .entry)) (fed (now (carry .entry)) held (now (bytes .entry)) at .found)) (now (log .entry)) ⌝ }
+    ensures memory { λ r. ⌜ now (log .exit) ≡ foundMemory s stage (arrivalsOf (carryAfter (now (carry .entry)) held (now (bytes .entry)) at) (now (bytes .entry)) (fed (now (carry .entry)) held (now (bytes .entry)) at .found)) (now (log .entry)) ⌝ }
 {
     let f = arrive::feed(carry, held, bytes, at);
     let found = f.found;
@@ -164,8 +164,8 @@ pub fn arrive(session: Session, carry: &mut [u8], bytes: &[u8], log: &mut [u8]) 
 
 // What is left when nothing more arrives: a last line without LF, or, where not even a first line came, none, as if it were empty.
 fn take_last(s: State, stage: u8, carry: &[u8], held: usize, log: &mut [u8]) -> Taken
-    ensures answer { λ r. ⌜ r ≡ foundTaken s stage (leftEvents stage (now (carry .entry)) held) (now (log .entry)) ⌝ }
-    ensures memory { λ r. ⌜ now (log .exit) ≡ foundMemory s stage (leftEvents stage (now (carry .entry)) held) (now (log .entry)) ⌝ }
+    ensures answer { λ r. ⌜ r ≡ foundTaken s stage (leftArrivals stage (now (carry .entry)) held) (now (log .entry)) ⌝ }
+    ensures memory { λ r. ⌜ now (log .exit) ≡ foundMemory s stage (leftArrivals stage (now (carry .entry)) held) (now (log .entry)) ⌝ }
 {
     let none = &carry[..0];
     if held == 0 {

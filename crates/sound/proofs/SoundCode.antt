@@ -9,7 +9,7 @@ use borrow.Author.Tests.{not-true, not-false, eqb-true, eq-eqb}
 use Rattle.lists.specs.Test.{_or_}
 use Rattle.lists.specs.TestLaws.{same-test}
 use Rattle.rules.specs.Sizes.{levels, granted}
-use Rattle.queues.specs.Queue.{noId, keyOf}
+use Rattle.task_lists.specs.TaskList.{noId, keyOf}
 use Rattle.record.specs.Reads.{ownerAt}
 use Rattle.record.specs.declared.Mutexes.{Mutexes}
 

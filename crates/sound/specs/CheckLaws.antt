@@ -20,7 +20,7 @@ use Rattle.rules.specs.Sizes.{maxTasks, maxMutexes, maxSemaphores, maxHold, gra
 use Rattle.rules.specs.Tables.{tasks, mutexes, semaphores, outcomeOf, ownerOf}
 use Rattle.rules.specs.Levels.{levelIn}
 use Rattle.rules.specs.Sound.{columnsb, sizesb, rangesb, clockb, ascendingb, noneIn, runsb, holdb, urgentTop, urgentb, setUpb, tablesb, soundb}
-use Rattle.queues.specs.Queue.{noId, items, keyOf}
+use Rattle.task_lists.specs.TaskList.{noId, items, keyOf}
 use Rattle.walks.specs.Walk.{taskAt}
 use Rattle.walks.specs.WalkLaws.{task-in}
 use Rattle.record.specs.Record.{viewTables, view}
@@ -49,7 +49,7 @@ ties-same-key f g (x ∷ y ∷ l) h = rw (h x (occ-head x (y ∷ l)), h y (omega
 inside-member : (n : ℕ) (l : List ℕ) → inside n l ≡ true → (y : ℕ) → 1 ≤ occ y l → y < n
 inside-member n l e y m = elim (decLt y n) [ yes h ↦ h | no h ↦ absurd (omega (arith, inside-true n l e y (omega arith))) ]
 
--- a queue's items, and its first
+-- a list's items, and its first
 none-items : (n : ℕ) (ids : List ℕ) → n ≤ length ids → eqb n 0 ≡ noneIn (take n ids)
 unfolding noneIn
 none-items zero ids h = refl
@@ -116,10 +116,10 @@ module _ (k : State) (T : Typed k) (tidy : tidyb k ≡ true) where
   unfolding clockb view
   clock-true = true-and _ _ (lt-ltb _ _ (T .clock-word)) (le-leb (k .hold) maxHold (omega (arith, T .hold-byte)))
 
-  -- where stored levels are as defined and the queue of ready tasks and the running one are in range
-  module _ (stored : levelsb k ≡ true) (queued : inside (k .tasks .n) (items (k .ready)) ≡ true) (runner : eqb (k .running) noId or ltb (k .running) (k .tasks .n) ≡ true) where
+  -- where stored levels are as defined and the list of ready tasks and the running one are in range
+  module _ (stored : levelsb k ≡ true) (listed : inside (k .tasks .n) (items (k .ready)) ≡ true) (runner : eqb (k .running) noId or ltb (k .running) (k .tasks .n) ≡ true) where
     level-ready : (y : ℕ) → 1 ≤ occ y (items (k .ready)) → keyOf (k .tasks .level) y ≡ levelIn (viewTables k) y
-    level-ready y m = stored-level k stored y (inside-member (k .tasks .n) (items (k .ready)) queued y m)
+    level-ready y m = stored-level k stored y (inside-member (k .tasks .n) (items (k .ready)) listed y m)
 
     level-running : k .running < maxTasks → keyOf (k .tasks .level) (k .running) ≡ levelIn (viewTables k) (k .running)
     level-running h = elim (or-true _ _ runner) [
@@ -156,10 +156,10 @@ module _ (k : State) (T : Typed k) (tidy : tidyb k ≡ true) where
     unfolding view
     phase-same = rw (set-up-same, started-same) (phases (eqb (k .started) 0) _ _)
 
-  -- what the code's test of places tells of the ready queue and of the running task
-  queued-in : placesIn k ≡ true → inside (k .tasks .n) (items (k .ready)) ≡ true
+  -- what the code's test of places tells of the ready list and of the running task
+  listed-in : placesIn k ≡ true → inside (k .tasks .n) (items (k .ready)) ≡ true
   unfolding placesIn
-  queued-in e = and-l _ _ (and-r _ _ e)
+  listed-in e = and-l _ _ (and-r _ _ e)
 
   runner-in : placesIn k ≡ true → eqb (k .running) noId or ltb (k .running) (k .tasks .n) ≡ true
   unfolding placesIn
@@ -185,7 +185,7 @@ module _ (k : State) (T : Typed k) (tidy : tidyb k ≡ true) where
       let task = sym (tasks-same k T tidy) ∙ and-l _ _ e₃ in
       let spots = sym (places-same k T tidy) ∙ and-l _ _ e₄ in
       let stored = sym (levels-same k T tidy) ∙ and-l _ _ e₆ in
-      let queued = queued-in (and-l _ _ e₄) in
+      let listed = listed-in (and-l _ _ e₄) in
       let runner = runner-in (and-l _ _ e₄) in
       true-and _ _ stored (true-and _ _ (
       true-and _ _ columns-true
@@ -200,7 +200,7 @@ module _ (k : State) (T : Typed k) (tidy : tidyb k ≡ true) where
       )
       (true-and _ _ clock-true
       (true-and _ _ (and-r _ _ spots)
-      (true-and _ _ (sym (ascending-same stored queued runner) ∙ and-l _ _ e₇) (sym (phase-same stored queued runner) ∙ and-r _ _ e₇)))))
+      (true-and _ _ (sym (ascending-same stored listed runner) ∙ and-l _ _ e₇) (sym (phase-same stored listed runner) ∙ and-r _ _ e₇)))))
 
   sound-checked : levelsb k and soundb (view k) ≡ true → checked ≡ true
   unfolding soundb tablesb rangesb view
@@ -217,7 +217,7 @@ module _ (k : State) (T : Typed k) (tidy : tidyb k ≡ true) where
       let t₈ = and-r _ _ t₇ in
       let stored = and-l _ _ e in
       let spots = places-same k T tidy ∙ true-and _ _ (and-l _ _ t₃) (and-l _ _ s₁) in
-      let queued = queued-in spots in
+      let listed = listed-in spots in
       let runner = runner-in spots in
       true-and _ _ (priorities-same k T tidy ∙ and-l _ _ (and-l _ _ t₂))
       (true-and _ _ (mutexes-same k T tidy ∙ true-and _ _ (and-r _ _ (and-l _ _ t₂)) (and-l _ _ t₆))
@@ -226,7 +226,7 @@ module _ (k : State) (T : Typed k) (tidy : tidyb k ≡ true) where
       (true-and _ _ spots
       (true-and _ _ (ring-same k T tidy ∙ and-l _ _ t₇)
       (true-and _ _ (levels-same k T tidy ∙ stored)
-      (true-and _ _ (ascending-same stored queued runner ∙ and-l _ _ s₂) (phase-same stored queued runner ∙ and-r _ _ s₂))))))))
+      (true-and _ _ (ascending-same stored listed runner ∙ and-l _ _ s₂) (phase-same stored listed runner ∙ and-r _ _ s₂))))))))
 
 -- the code's own test of a record is "sound state"
 pub checks-sound : (k : State) → Typed k → checks k ≡ soundOf k

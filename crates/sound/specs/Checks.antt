@@ -10,7 +10,7 @@ use Rattle.lists.specs.Table.{filled}
 use Rattle.chains.specs.Chain.{endsb}
 use Rattle.rules.specs.Sizes.{maxTasks, levels, kinds, maxTicks, granted, pending, timedOut, flushed}
 use Rattle.rules.specs.Levels.{next}
-use Rattle.queues.specs.Queue.{noId, items, keyOf, counted}
+use Rattle.task_lists.specs.TaskList.{noId, items, keyOf, counted}
 use Rattle.walks.specs.Walk.{nextIn}
 use Rattle.record.specs.Record.{ticksLeft, onMutex, onSemaphore, onTime}
 use Rattle.record.specs.SoundRecord.{tidyb}
@@ -24,11 +24,11 @@ use Rattle.record.specs.declared.Semaphores.{Semaphores}  -- keep
 unfoldable pub prioritiesIn : Tasks → Bool
 prioritiesIn t = allb (t .n) (λ i. ltb (keyOf (t .priority) i) levels)
 
-unfoldable pub mutexIn : Mutexes → ℕ → ℕ → Bool
-mutexIn m n j = ltb (kindAt m j) kinds and (eqb (ownerAt m j) noId or ltb (ownerAt m j) n)
+unfoldable pub mutexInRange : Mutexes → ℕ → ℕ → Bool
+mutexInRange m n j = ltb (kindAt m j) kinds and (eqb (ownerAt m j) noId or ltb (ownerAt m j) n)
 
 unfoldable pub mutexesIn : Mutexes → ℕ → Bool
-mutexesIn m n = allb (m .n) (mutexIn m n)
+mutexesIn m n = allb (m .n) (mutexInRange m n)
 
 unfoldable pub countIn : Semaphores → ℕ → Bool
 countIn c j = leb (countAt c j) (maximumAt c j) and ltb 0 (maximumAt c j)

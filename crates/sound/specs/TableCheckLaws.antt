@@ -20,8 +20,8 @@ use Rattle.rules.specs.Sizes.{maxTasks, levels, kinds, maxTicks, granted, pendi
 use Rattle.rules.specs.Tables.{Tables, tasks, mutexes, semaphores, priorityOf, outcomeOf, waitOf, kindOf, ownerOf, countOf}
 use Rattle.rules.specs.Levels.{next}
 use Rattle.rules.specs.Sound.{waitCount, waitingb, placesb, unavailableb, leftb, blockedb, timedb, waitersb, timesb, existsb, ownersb, noRingb, countsb, outcomeb, outcomesb}
-use Rattle.queues.specs.Queue.{noId, items, keyOf, counted}
-use Rattle.queues.specs.QueueLaws.{length-counted, getD-counted}
+use Rattle.task_lists.specs.TaskList.{noId, items, keyOf, counted}
+use Rattle.task_lists.specs.TaskListLaws.{length-counted, getD-counted}
 use Rattle.walks.specs.Walk.{taskAt, nextIn}
 use Rattle.walks.specs.WalkLaws.{task-in, ends-ext}
 use Rattle.record.specs.Record.{ticksLeft, onMutex, onSemaphore, onTime, leftIn, waitIn, waitAt, viewTables, view}
@@ -32,7 +32,7 @@ use Rattle.record.specs.GoodRecord.{Typed}
 use Rattle.record.specs.TidyLaws.{tasks-fit, ready-fits, waiting-fits, running-or, wait-kind, timed-waits}
 use Rattle.record.specs.ViewLaws.{owner-id, unused-owner, view-tasks, view-mutexes, view-semaphores, view-priority, view-outcome, view-wait, view-kind, view-owner, view-count, view-maximum, next-same, new-level}
 use Rattle.record.specs.declared.State.{State}  -- keep
-use Rattle.sound.specs.Checks.{mutexIn}  -- keep
+use Rattle.sound.specs.Checks.{mutexInRange}  -- keep
 
 -- an id, and the task that it stands for
 exists-id : (x n : ℕ) → (x < maxTasks) ⊎ (x ≡ noId) → eqb x noId or ltb x n ≡ existsb n (taskAt x)
@@ -114,7 +114,7 @@ occ-length i (x ∷ l) = elim (ℕ-discrete x i) [
 abbrev leftOf : State → ℕ → Option ℕ
 leftOf k i = leftIn (getD (k .tasks .timed) i 0) (getD (k .tasks .due) i 0) (k .clock)
 
--- how often each task stands in the order of waits, and in the two queues
+-- how often each task stands in the order of waits, and in the two lists
 abbrev waitsOf : State → List ℕ
 waitsOf k = counted (replicate maxTasks 0) (items (k .waiting))
 
@@ -137,8 +137,8 @@ module _ (k : State) (T : Typed k) (tidy : tidyb k ≡ true) where
   priorities-same = all-same _ _ _ _ (sym (view-tasks k T tidy)) (λ i h. ap (λ (x : ℕ). ltb x levels) (sym (view-priority k T tidy i h)))
 
   mutex-same : (j : ℕ) → j < k .mutexes .n
-      → mutexIn (k .mutexes) (k .tasks .n) j ≡ ltb (kindOf (viewTables k) j) kinds and existsb (tasks (viewTables k)) (ownerOf (viewTables k) j)
-  unfolding mutexIn
+      → mutexInRange (k .mutexes) (k .tasks .n) j ≡ ltb (kindOf (viewTables k) j) kinds and existsb (tasks (viewTables k)) (ownerOf (viewTables k) j)
+  unfolding mutexInRange
   mutex-same j h = rw (view-kind k T tidy j h, view-owner k T tidy j, view-tasks k T tidy, exists-id (ownerAt (k .mutexes) j) (k .tasks .n) (owner-id k T tidy j)) refl
 
   pub mutexes-same : mutexesIn (k .mutexes) (k .tasks .n) ≡ allb (mutexes (viewTables k)) (λ j. ltb (kindOf (viewTables k) j) kinds) and ownersb (viewTables k)
@@ -190,7 +190,7 @@ module _ (k : State) (T : Typed k) (tidy : tidyb k ≡ true) where
   unfolding levelsIn levelsb
   levels-same = all-same _ _ _ _ (omega (arith, tasks-fit k tidy)) (λ i h. ap (eqb (getD (k .tasks .level) i 0)) (new-level k T tidy i (omega arith)))
 
-  -- how often each task stands in the two queues
+  -- how often each task stands in the two lists
   waits-at : (i : ℕ) → i < maxTasks → keyOf (waitsOf k) i ≡ occ i (items (k .waiting))
   waits-at i l =
       let z : keyOf (replicate maxTasks 0) i ≡ 0 = getD-replicate maxTasks i 0 0 l in

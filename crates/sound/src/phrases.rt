@@ -1,6 +1,6 @@
 // Is the record sound? One function for each phrase; the first that fails ends the test.
 ghost use mathlib.Core.Path.{_≡_};
-ghost use Rattle.sound.specs.Checks.{prioritiesIn, mutexIn, mutexesIn, countIn, countsIn, blockedAt, timedAt, outcomeAt, taskIn, tasksIn, placeAt, placesIn, ringless, levelsIn, topIn, startedIn, nothingOwned, outcomesZero, setUpIn, phaseIn, checks};
+ghost use Rattle.sound.specs.Checks.{prioritiesIn, mutexInRange, mutexesIn, countIn, countsIn, blockedAt, timedAt, outcomeAt, taskIn, tasksIn, placeAt, placesIn, ringless, levelsIn, topIn, startedIn, nothingOwned, outcomesZero, setUpIn, phaseIn, checks};
 use crate::tidy;
 use record::FLUSHED;
 use record::GRANTED;
@@ -28,7 +28,7 @@ fn priorities_in(t: Tasks) -> bool
 {
     let priorities = t.priority;
     for i in 0..t.n {
-        if LEVELS <= queues::key_of(priorities, i) {
+        if LEVELS <= task_lists::key_of(priorities, i) {
             return false;
         }
     }
@@ -37,7 +37,7 @@ fn priorities_in(t: Tasks) -> bool
 
 // A mutex's kind is in range, and its owner exists.
 fn mutex_in(m: Mutexes, n: u8, j: u8) -> bool
-    ensures { λ r. ⌜ r ≡ mutexIn m n j ⌝ }
+    ensures { λ r. ⌜ r ≡ mutexInRange m n j ⌝ }
 {
     if KINDS <= reads::kind_at(m, j) {
         return false;
@@ -89,8 +89,8 @@ fn blocked(s: State, i: u8) -> bool
     let t = s.tasks;
     let kinds = t.wait;
     let objects = t.object;
-    let kind = queues::key_of(kinds, i);
-    let object = queues::key_of(objects, i);
+    let kind = task_lists::key_of(kinds, i);
+    let object = task_lists::key_of(objects, i);
     if kind == ON_MUTEX {
         if s.mutexes.n <= object {
             return false;
@@ -112,8 +112,8 @@ fn timed(t: Tasks, clock: u32, i: u8) -> bool
 {
     let flags = t.timed;
     let kinds = t.wait;
-    if queues::key_of(flags, i) != 1 {
-        return queues::key_of(kinds, i) != ON_TIME;
+    if task_lists::key_of(flags, i) != 1 {
+        return task_lists::key_of(kinds, i) != ON_TIME;
     }
     let left = reads::ticks_left(reads::due_of(t, i), clock);
     if left == 0 {
@@ -128,8 +128,8 @@ fn outcome_in(t: Tasks, i: u8) -> bool
 {
     let kinds = t.wait;
     let outcomes = t.outcome;
-    let outcome = queues::key_of(outcomes, i);
-    if queues::key_of(kinds, i) != NO_WAIT {
+    let outcome = task_lists::key_of(outcomes, i);
+    if task_lists::key_of(kinds, i) != NO_WAIT {
         return outcome == PENDING;
     }
     if outcome == GRANTED {
@@ -171,16 +171,16 @@ fn place_at(s: State, waits: [u8; TASKS], all: [u8; TASKS], i: u8) -> bool
     let t = s.tasks;
     let kinds = t.wait;
     let mut expected: u8 = 1;
-    if queues::key_of(kinds, i) == NO_WAIT {
+    if task_lists::key_of(kinds, i) == NO_WAIT {
         expected = 0;
     }
-    if queues::key_of(waits, i) != expected {
+    if task_lists::key_of(waits, i) != expected {
         return false;
     }
     if s.running == i {
-        return queues::key_of(all, i) == 0;
+        return task_lists::key_of(all, i) == 0;
     }
-    queues::key_of(all, i) == 1
+    task_lists::key_of(all, i) == 1
 }
 
 // Each task stands in one place: running, ready or waiting.
@@ -188,10 +188,10 @@ fn places_in(s: State) -> bool
     ensures { λ r. ⌜ r ≡ placesIn s ⌝ }
 {
     let n = s.tasks.n;
-    if !queue_checks::ids_below(s.waiting, n) {
+    if !task_list_checks::ids_below(s.waiting, n) {
         return false;
     }
-    if !queue_checks::ids_below(s.ready, n) {
+    if !task_list_checks::ids_below(s.ready, n) {
         return false;
     }
     if s.running != NONE {
@@ -199,8 +199,8 @@ fn places_in(s: State) -> bool
             return false;
         }
     }
-    let waits = queue_checks::count_in([0u8; TASKS], s.waiting);
-    let all = queue_checks::count_in(waits, s.ready);
+    let waits = task_list_checks::count_in([0u8; TASKS], s.waiting);
+    let all = task_list_checks::count_in(waits, s.ready);
     for i in 0..n {
         if !place_at(s, waits, all, i) {
             return false;
@@ -234,7 +234,7 @@ fn top_in(s: State) -> bool
     let t = s.tasks;
     let levels = t.level;
     let q = s.ready;
-    queues::key_of(levels, s.running) <= queues::key_of(levels, q.ids[0])
+    task_lists::key_of(levels, s.running) <= task_lists::key_of(levels, q.ids[0])
 }
 
 // After start: a task runs if any is ready; hold only with a running task; at hold 0 none ready is more urgent.
@@ -272,7 +272,7 @@ fn outcomes_zero(t: Tasks) -> bool
 {
     let outcomes = t.outcome;
     for i in 0..t.n {
-        if queues::key_of(outcomes, i) != GRANTED {
+        if task_lists::key_of(outcomes, i) != GRANTED {
             return false;
         }
     }
@@ -303,7 +303,7 @@ fn set_up_in(s: State) -> bool
     }
     let t = s.tasks;
     let levels = t.level;
-    queue_checks::ties_by_id(s.ready, levels)
+    task_list_checks::ties_by_id(s.ready, levels)
 }
 
 // What a started record or one in set-up owes.
@@ -346,7 +346,7 @@ pub fn check(s: State) -> bool
     }
     let t = s.tasks;
     let levels = t.level;
-    if !queue_checks::ascending(s.ready, levels) {
+    if !task_list_checks::ascending(s.ready, levels) {
         return false;
     }
     phase_in(s)

@@ -2,8 +2,8 @@
 ghost use mathlib.Core.Path.{_≡_};
 ghost use Prim.Native.Nat.{_<_};
 ghost use Rattle.rules.specs.Sizes.{maxTasks, maxMutexes, maxSemaphores};
-ghost use Rattle.record.specs.SoundRecord.{usedTaskb, unusedTaskb, taskPlaceb, tasksTidyb, idb, mutexPlaceb, mutexesTidyb, semPlaceb, semaphoresTidyb, queueTidyb, tidyb};
-use queues::Queue;
+ghost use Rattle.record.specs.SoundRecord.{usedTaskb, unusedTaskb, taskPlaceb, tasksTidyb, idb, mutexPlaceb, mutexesTidyb, semPlaceb, semaphoresTidyb, taskListTidyb, tidyb};
+use task_lists::TaskList;
 use record::MAX_MUTEXES;
 use record::MAX_SEMAPHORES;
 use record::MAX_TASKS;
@@ -163,13 +163,13 @@ fn semaphores_tidy(c: Semaphores) -> bool
     true
 }
 
-fn queue_tidy(q: Queue) -> bool
-    ensures { λ r. ⌜ r ≡ queueTidyb q ⌝ }
+fn task_list_tidy(q: TaskList) -> bool
+    ensures { λ r. ⌜ r ≡ taskListTidyb q ⌝ }
 {
     if MAX_TASKS < q.n {
         return false;
     }
-    queue_checks::rest_empty(q)
+    task_list_checks::rest_empty(q)
 }
 
 // "unused table places as in the fresh state", and absent fields too
@@ -185,10 +185,10 @@ pub fn tidy(s: State) -> bool
     if !semaphores_tidy(s.semaphores) {
         return false;
     }
-    if !queue_tidy(s.ready) {
+    if !task_list_tidy(s.ready) {
         return false;
     }
-    if !queue_tidy(s.waiting) {
+    if !task_list_tidy(s.waiting) {
         return false;
     }
     if 1 < s.started {

@@ -24,8 +24,8 @@ use Rattle.rules.specs.Sizes.{maxTasks}
 use Rattle.rules.specs.Tables.{tasks}
 use Rattle.rules.specs.Settle.{meet, dispatch}
 use Rattle.rules.specs.Invariant.{Facts, Places}
-use Rattle.queues.specs.Queue.{places, noId, queueOf, keyOf, inserted, idOf}
-use Rattle.queues.specs.QueueLaws.{head-queueOf, kept-queueOf}
+use Rattle.task_lists.specs.TaskList.{places, noId, taskListOf, keyOf, inserted, idOf}
+use Rattle.task_lists.specs.TaskListLaws.{head-taskListOf, kept-taskListOf}
 use Rattle.record.specs.Record.{packTasks, pack}
 use Rattle.record.specs.Reads.{firstId}
 use Rattle.steps.specs.Machine.{single, without, ran, displaced, dispatched}
@@ -42,9 +42,9 @@ single-at x y h = rw (lt-ltb x maxTasks h) (elim (ℕ-discrete x y) [
 ])
 
 -- the first leaves
-pub first-leaves : (x : ℕ) (l : List ℕ) → x < maxTasks → occ x l ≡ 0 → without (queueOf (x ∷ l)) x ≡ queueOf l
+pub first-leaves : (x : ℕ) (l : List ℕ) → x < maxTasks → occ x l ≡ 0 → without (taskListOf (x ∷ l)) x ≡ taskListOf l
 unfolding keep
-first-leaves x l h e = kept-queueOf (single x) 0 (x ∷ l) ∙ ap queueOf (rw (off x (eqn-at x x refl)) (keep-all (λ y. eqb (keyOf (single x) y) 0) l on))
+first-leaves x l h e = kept-taskListOf (single x) 0 (x ∷ l) ∙ ap taskListOf (rw (off x (eqn-at x x refl)) (keep-all (λ y. eqb (keyOf (single x) y) 0) l on))
   where
     off : (y : ℕ) → eqn x y ≡ 1 → eqb (keyOf (single x) y) 0 ≡ false
     off y q = rw (single-at x y h, q) refl
@@ -113,17 +113,17 @@ module _ (s : Model) (F : Facts (s .tables)) (on : s .started ≡ true) where
   unfolding occ
   runner-in r l P = omega (arith, F .few-tasks, in-below r (tasks (s .tables)) (omega (arith, at-most (some r) l P r, eqn-at r r refl)))
 
-  displaced-queue : (r x : ℕ) (l : List ℕ) → Places (placed s (some r) (x ∷ l)) []
-      → inserted (without (queueOf (x ∷ l)) x) ((packTasks (s .tables) (s .clock)) .level) (keyOf ((packTasks (s .tables) (s .clock)) .level) r) r ≡ queueOf (insertHead (levelOf s) r l)
-  displaced-queue r x l P =
+  displaced-list : (r x : ℕ) (l : List ℕ) → Places (placed s (some r) (x ∷ l)) []
+      → inserted (without (taskListOf (x ∷ l)) x) ((packTasks (s .tables) (s .clock)) .level) (keyOf ((packTasks (s .tables) (s .clock)) .level) r) r ≡ taskListOf (insertHead (levelOf s) r l)
+  displaced-list r x l P =
       let h = first-in (some r) x l P in
       let lv = (packTasks (s .tables) (s .clock)) .level in
       ap (λ q. inserted q lv (keyOf lv r) r) (first-leaves x l (h .0) (h .1))
-      ∙ head-queueOf lv r l (room (some r) x l P)
-      ∙ ap (λ f. queueOf (insertHead f r l)) (fun-ext (level-read (s .tables) (s .clock)))
+      ∙ head-taskListOf lv r l (room (some r) x l P)
+      ∙ ap (λ f. taskListOf (insertHead f r l)) (fun-ext (level-read (s .tables) (s .clock)))
 
   meet-pack : (r : Option ℕ) (l : List ℕ) → Places (placed s r l) [] → dispatched (pack (placed s r l)) ≡ pack (meet s r l)
-  unfolding meet pack idOf queueOf pad displaced _and_
+  unfolding meet pack idOf taskListOf pad displaced _and_
   meet-pack r [] P = case-empty (pack (placed s r [])) (up r []) refl
   meet-pack none (x ∷ l) P =
       let h = first-in none x l P in
@@ -131,7 +131,7 @@ module _ (s : Model) (F : Facts (s .tables)) (on : s .started ≡ true) where
       ∙ ap (λ q. ran (pack (placed s none (x ∷ l))) x q) (first-leaves x l (h .0) (h .1))
   meet-pack (some r) (x ∷ l) P = elim (which (eqb (s .hold) 0)) [
     | inl e ↦ elim (which (ltb (levelOf s x) (levelOf s r))) [
-      | inl f ↦ case-displaced k (up (some r) (x ∷ l)) many runs e (test ∙ f) ∙ ap (λ q. ran k x q) (displaced-queue r x l P) ∙ ap pack (sym (meet-displaces s r x l (true-and _ _ e f)))
+      | inl f ↦ case-displaced k (up (some r) (x ∷ l)) many runs e (test ∙ f) ∙ ap (λ q. ran k x q) (displaced-list r x l P) ∙ ap pack (sym (meet-displaces s r x l (true-and _ _ e f)))
       | inr f ↦ case-stays k (up (some r) (x ∷ l)) many runs e (test ∙ f) ∙ ap pack (sym (meet-stays s r x l (rw e f)))
     ]
     | inr e ↦ case-held k (up (some r) (x ∷ l)) many runs e ∙ ap pack (sym (meet-stays s r x l (false-and _ _ e)))

@@ -27,8 +27,8 @@ use Rattle.rules.specs.FactsLaws.{wait-ended}
 use Rattle.rules.specs.WaiterLaws.{wait-in}
 use Rattle.rules.specs.StepLaws.{caller-in}
 use Rattle.rules.specs.History.{at}
-use Rattle.queues.specs.Queue.{noId, queueOf, keyOf, pushed, kept, idOf}
-use Rattle.queues.specs.QueueLaws.{push-queueOf, kept-queueOf}
+use Rattle.task_lists.specs.TaskList.{noId, taskListOf, keyOf, pushed, kept, idOf}
+use Rattle.task_lists.specs.TaskListLaws.{push-taskListOf, kept-taskListOf}
 use Rattle.record.specs.Record.{onTime, awaitedKind, awaitedObject, leftCode, kindCode, objectCode, timedCode, dueCode, packTasks, packMutexes, packSemaphores, pack}
 use Rattle.record.specs.Setters.{withTasks, withLevel}
 use Rattle.steps.specs.Machine.{waitBegun, endedWhere, woke, timedFor, dueFor, blockedOn}
@@ -58,8 +58,8 @@ module _ (t : Tables) (F : Facts t) (p : ℕ → Bool) (named : (i : ℕ) → p 
 
   module _ (flags : List ℕ) (fl : Flags flags p) where
     -- the order of the waits
-    pub kept-ended : kept (queueOf (t .waiting)) flags 0 ≡ queueOf (keep (λ i. not (p i)) (t .waiting))
-    kept-ended = kept-queueOf flags 0 (t .waiting) ∙ ap (λ (q : ℕ → Bool). queueOf (keep q (t .waiting))) (fun-ext (flag-zero flags p fl))
+    pub kept-ended : kept (taskListOf (t .waiting)) flags 0 ≡ taskListOf (keep (λ i. not (p i)) (t .waiting))
+    kept-ended = kept-taskListOf flags 0 (t .waiting) ∙ ap (λ (q : ℕ → Bool). taskListOf (keep q (t .waiting))) (fun-ext (flag-zero flags p fl))
 
     -- a column of codes
     module _ (out : ℕ → ℕ) where
@@ -143,4 +143,4 @@ module _ (s : Model) (I : Inv s) (r : ℕ) (run : s .running ≡ some r) where
   blocked-pack a x =
       ap (λ z. withRunning (withWaiting (withTasks (pack s) z) (pushed ((pack s) .waiting) r)) noId) (tasks-begun (s .tables) (I .facts) r (caller-in s I r run) (s .clock) a x)
       ∙ ap (λ z. withRunning (withWaiting (withTasks (pack s) (withLevel (packTasks (beginWait (s .tables) r (waitFor a x)) (s .clock)) (levelColumn (s .tables)))) z) noId)
-      (push-queueOf (s .tables .waiting) r (omega (arith, waiting-short, I .facts .few-tasks)))
+      (push-taskListOf (s .tables .waiting) r (omega (arith, waiting-short, I .facts .few-tasks)))

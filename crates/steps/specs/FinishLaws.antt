@@ -16,7 +16,7 @@ use Rattle.rules.specs.Levels.{levelIn}
 use Rattle.rules.specs.Settle.{settledReady, settle, meet, dispatch}
 use Rattle.rules.specs.Invariant.{Facts, Places, Runs, Urgent, Started, Inv}
 use Rattle.rules.specs.SettleLaws.{occ-settled, settled-same}
-use Rattle.queues.specs.Queue.{keyOf}
+use Rattle.task_lists.specs.TaskList.{keyOf}
 use Rattle.record.specs.Record.{pack}
 use Rattle.steps.specs.Machine.{settled, dispatched, lined}
 use Rattle.record.specs.PackLaws.{levelColumn, packWith}

@@ -18,12 +18,12 @@ use Rattle.lists.specs.TableLaws.{length-pad, getD-pad}
 use Rattle.rules.specs.Sizes.{maxTasks}
 use Rattle.rules.specs.Step.{level, outcome}
 use Rattle.rules.specs.Effect.{due}
-use Rattle.queues.specs.Queue.{keyOf, inserted, insertedFlagged}
+use Rattle.task_lists.specs.TaskList.{keyOf, inserted, insertedFlagged}
 use Rattle.record.specs.Record.{onTime}
 use Rattle.steps.specs.Machine.{waitEnded, endedIf, endedWhere, single}
 use Rattle.steps.specs.DispatchLaws.{single-at}
 use Rattle.record.specs.declared.Tasks.{Tasks}  -- keep
-use Rattle.queues.specs.declared.Queue.{Queue}  -- keep
+use Rattle.task_lists.specs.declared.TaskList.{TaskList}  -- keep
 
 -- flags name who passes the test
 abbrev pub Flags : List ℕ → (ℕ → Bool) → Type 0
@@ -47,8 +47,8 @@ member-one r i = elim (ℕ-discrete r i) [
   | no n ↦ rw (ne-eqb r i n) (le-ltb 0 (eqn r i + 0) (omega (arith, eqn-other r i n)))
 ]
 
--- who goes into a queue where one task has a flag
-module _ (q : Queue) (keys flags : List ℕ) where
+-- who goes into a list where one task has a flag
+module _ (q : TaskList) (keys flags : List ℕ) where
   flagged-none : (n : ℕ) → ((i : ℕ) → i < n → eqb (keyOf flags i) 1 ≡ false) → insertedFlagged q keys flags n ≡ q
   unfolding insertedFlagged
   flagged-none zero h = refl

@@ -25,7 +25,7 @@ use Rattle.rules.specs.Invariant.{Unavailable, Blocked, Facts, Inv}
 use Rattle.rules.specs.FactsLaws.{facts-give, facts-free, facts-begin, wait-ended, facts-end}
 use Rattle.rules.specs.WaiterLaws.{mutex-awaits, nobody-best, places-end}
 use Rattle.rules.specs.StepLaws.{left-mutex, caller-in, caller-idle, of-caller}
-use Rattle.queues.specs.Queue.{noId, idOf}
+use Rattle.task_lists.specs.TaskList.{noId, idOf}
 use Rattle.record.specs.Record.{onMutex, onTime, awaitedKind, awaitedObject, kindCode, packTasks, packMutexes, packSemaphores, pack}
 use Rattle.record.specs.StepRecord.{outFor}
 use Rattle.record.specs.Reads.{ownerAt}

@@ -11,14 +11,14 @@ use Rattle.lists.specs.Table.{filled}
 use Rattle.rules.specs.Sizes.{maxTasks, maxMutexes, maxSemaphores, levels, kinds, maxHold, maxTicks, forever, granted, pending, timedOut, flushed}
 use Rattle.rules.specs.Step.{level, outcome}
 use Rattle.rules.specs.Effect.{due}
-use Rattle.queues.specs.Queue.{noId, items, keyOf, pushed, inserted, kept, insertedFlagged, counted, bestOf}
+use Rattle.task_lists.specs.TaskList.{noId, items, keyOf, pushed, inserted, kept, insertedFlagged, counted, bestOf}
 use Rattle.walks.specs.Walk.{chainFrom}
 use Rattle.record.specs.Record.{ticksLeft, dueAt, onMutex, onSemaphore, onTime}
 use Rattle.record.specs.declared.State.{State}  -- keep
 use Rattle.record.specs.declared.Tasks.{Tasks}  -- keep
 use Rattle.record.specs.declared.Mutexes.{Mutexes}  -- keep
 use Rattle.record.specs.declared.Semaphores.{Semaphores}  -- keep
-use Rattle.queues.specs.declared.Queue.{Queue}  -- keep
+use Rattle.task_lists.specs.declared.TaskList.{TaskList}  -- keep
 use Rattle.record.specs.declared.Out.{Out}  -- keep
 use Rattle.record.specs.declared.Answer.the-variants.{Accepted, Refused}  -- keep
 use Rattle.record.specs.declared.Request.{Request}  -- keep
@@ -82,10 +82,10 @@ bothFlag a b i = bothOnes (getD a i 0) (getD b i 0)
 unfoldable pub anyFlag : List ℕ → Bool
 anyFlag f = not (allb maxTasks (λ i. not (eqb (getD f i 0) 1)))
 
-unfoldable pub movedOf : Queue → List ℕ → List ℕ
+unfoldable pub movedOf : TaskList → List ℕ → List ℕ
 movedOf q changed = filled maxTasks (bothFlag changed (counted (replicate maxTasks 0) (items q)))
 
-unfoldable pub resettled : Queue → List ℕ → List ℕ → List ℕ → ℕ → Queue
+unfoldable pub resettled : TaskList → List ℕ → List ℕ → List ℕ → ℕ → TaskList
 resettled q old new woken n =
     let changed = filled maxTasks (differFlag old new) in
     insertedFlagged (insertedFlagged (kept q changed 0) new (movedOf q changed) n) new woken n
@@ -95,10 +95,10 @@ settled k woken =
     let new = newLevels (k .tasks) (k .mutexes) in
     withReady (withTasks k (withLevel (k .tasks) new)) (resettled (k .ready) (k .tasks .level) new woken (k .tasks .n))
 
-abbrev pub without : Queue → ℕ → Queue
+abbrev pub without : TaskList → ℕ → TaskList
 without q x = kept q (single x) 0
 
-abbrev pub ran : State → ℕ → Queue → State
+abbrev pub ran : State → ℕ → TaskList → State
 ran k x q = withRunning (withReady k q) x
 
 unfoldable pub displaced : State → ℕ → ℕ → State

@@ -21,7 +21,7 @@ use Rattle.rules.specs.Invariant.{Facts}
 use Rattle.rules.specs.FactsLaws.{wait-ended}
 use Rattle.rules.specs.WaiterLaws.{level-alone}
 use Rattle.rules.specs.CreationLaws.{facts-addTask}
-use Rattle.queues.specs.Queue.{noId, idOf}
+use Rattle.task_lists.specs.TaskList.{noId, idOf}
 use Rattle.record.specs.Record.{kindCode, objectCode, timedCode, dueCode, packTasks, packMutexes, packSemaphores}
 use Rattle.steps.specs.Machine.{ownerSet, countSet, taskAdded, mutexAdded, semAdded}
 use Rattle.record.specs.PackLaws.{same-tasks, same-mutexes, same-semaphores}

@@ -24,8 +24,8 @@ use Rattle.rules.specs.SettleLaws.{settled-made}
 use Rattle.rules.specs.WaiterLaws.{wait-none}
 use Rattle.rules.specs.CreationLaws.{facts-addMutex, facts-addSem, ready-in}
 use Rattle.rules.specs.StepLaws.{caller-in}
-use Rattle.queues.specs.Queue.{noId, queueOf, keyOf, inserted, idOf}
-use Rattle.queues.specs.QueueLaws.{tail-queueOf}
+use Rattle.task_lists.specs.TaskList.{noId, taskListOf, keyOf, inserted, idOf}
+use Rattle.task_lists.specs.TaskListLaws.{tail-taskListOf}
 use Rattle.record.specs.Record.{packTasks, packMutexes, packSemaphores, pack}
 use Rattle.record.specs.StepRecord.{outFor}
 use Rattle.steps.specs.Machine.{single, dispatched, lined, taskAdded, accept, taskStep, mutexStep, semStep, startStep, yieldStep, holdStep, freeStep, levelStep, outcomeStep}
@@ -136,20 +136,20 @@ module _ (s : Model) (I : Inv s) where
         ∙ settled-made (tasks (s .tables)) (levelOf s) (levelIn grown) (s .ready)
         (λ i m. old-level (s .tables) (I .facts) (silent off) p low room i (ready-in s I i m)) (I .ascending)
 
-    lined-up : inserted (queueOf (s .ready)) ((packTasks grown (s .clock)) .level) (p + 1) (tasks (s .tables))
-        ≡ queueOf (settledReady (tasks grown) (levelOf s) (levelIn grown) (s .ready) (tasks (s .tables) ∷ []))
+    lined-up : inserted (taskListOf (s .ready)) ((packTasks grown (s .clock)) .level) (p + 1) (tasks (s .tables))
+        ≡ taskListOf (settledReady (tasks grown) (levelOf s) (levelIn grown) (s .ready) (tasks (s .tables) ∷ []))
     unfolding packTasks levelColumn
     lined-up =
-        ap (λ x. inserted (queueOf (s .ready)) ((packTasks grown (s .clock)) .level) (x + 1) (tasks (s .tables)))
+        ap (λ x. inserted (taskListOf (s .ready)) ((packTasks grown (s .clock)) .level) (x + 1) (tasks (s .tables)))
         (sym (level-read grown (s .clock) (tasks (s .tables)) ∙ made-level (s .tables) (I .facts) (silent off) p low room))
-        ∙ tail-queueOf ((packTasks grown (s .clock)) .level) (tasks (s .tables)) (s .ready) (omega (arith, ready-short))
-        ∙ ap (λ (f : ℕ → ℕ). queueOf (insertTail f (tasks (s .tables)) (s .ready))) (key-levels grown) ∙ ap queueOf (sym order)
+        ∙ tail-taskListOf ((packTasks grown (s .clock)) .level) (tasks (s .tables)) (s .ready) (omega (arith, ready-short))
+        ∙ ap (λ (f : ℕ → ℕ). taskListOf (insertTail f (tasks (s .tables)) (s .ready))) (key-levels grown) ∙ ap taskListOf (sym order)
 
     made-pack : withReady (withTasks (pack s) (taskAdded ((pack s) .tasks) p)) (inserted ((pack s) .ready) ((taskAdded ((pack s) .tasks) p) .level) (p + 1) ((pack s) .tasks .n))
         ≡ pack (dispatch (settle (levelOf s) (withTables s grown) (tasks (s .tables) ∷ [])))
     unfolding pack packMutexes packSemaphores packTasks
     made-pack =
-        ap (λ z. withReady (withTasks (pack s) z) (inserted (queueOf (s .ready)) (z .level) (p + 1) (tasks (s .tables))))
+        ap (λ z. withReady (withTasks (pack s) z) (inserted (taskListOf (s .ready)) (z .level) (p + 1) (tasks (s .tables))))
         (task-added (s .tables) (I .facts) (silent off) p low room (s .clock))
         ∙ ap (λ q. withReady (withTasks (pack s) (packTasks grown (s .clock))) q) lined-up
         ∙ ap pack (sym (dispatch-still (settle (levelOf s) (withTables s grown) (tasks (s .tables) ∷ [])) (λ e. absurd (clash e off))))

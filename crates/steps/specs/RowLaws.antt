@@ -15,7 +15,7 @@ use Rattle.rules.specs.Settle.{settle, dispatch, finish}
 use Rattle.rules.specs.Refusal.{Row, _when_, noCaller, refusals, firstRow}
 use Rattle.rules.specs.Invariant.{Inv}
 use Rattle.rules.specs.StepLaws.{caller-in}
-use Rattle.queues.specs.Queue.{noId, idOf}
+use Rattle.task_lists.specs.TaskList.{noId, idOf}
 use Rattle.record.specs.Record.{pack}
 use Rattle.record.specs.StepRecord.{answerFor, outFor}
 use Rattle.steps.specs.Machine.{accept, refuse, calledBy}

@@ -23,8 +23,8 @@ use Rattle.rules.specs.Levels.{levelIn}
 use Rattle.rules.specs.Settle.{settledReady, settle}
 use Rattle.rules.specs.Invariant.{Facts, Places}
 use Rattle.rules.specs.SettleLaws.{occ-settled, settled-same}
-use Rattle.queues.specs.Queue.{queueOf, keyOf, insertedFlagged, counted}
-use Rattle.queues.specs.QueueLaws.{items-queueOf, length-insertAll, flagged-queueOf, kept-queueOf, getD-counted}
+use Rattle.task_lists.specs.TaskList.{taskListOf, keyOf, insertedFlagged, counted}
+use Rattle.task_lists.specs.TaskListLaws.{items-taskListOf, length-insertAll, flagged-taskListOf, kept-taskListOf, getD-counted}
 use Rattle.record.specs.Record.{packTasks, pack}
 use Rattle.record.specs.Setters.{withTasks, withReady, withLevel}
 use Rattle.steps.specs.Machine.{differs, differFlag, bothOnes, bothFlag, movedOf, resettled, settled, lined}
@@ -113,12 +113,12 @@ module _ (n : ℕ) (old new ready woken flags : List ℕ) (few : n ≤ maxTasks)
       e : keyOf (counted (replicate maxTasks 0) ready) i ≡ occ i ready
       e = getD-counted (replicate maxTasks 0) ready i h (omega (arith, empty)) ∙ omega (arith, empty, fits i, below-le i n)
 
-  moved-is : byId n (λ i. eqb (keyOf (movedOf (queueOf ready) changes) i) 1) ≡ moved
+  moved-is : byId n (λ i. eqb (keyOf (movedOf (taskListOf ready) changes) i) 1) ≡ moved
   unfolding moved same movedOf
   moved-is = byId-ext n _ _ (λ i h.
       let q : i < maxTasks = omega arith in
       rw (
-        items-queueOf ready,
+        items-taskListOf ready,
         getD-filled maxTasks (bothFlag changes (counted (replicate maxTasks 0) ready)) 0 i q,
         both-1 (keyOf changes i) (keyOf (counted (replicate maxTasks 0) ready) i),
         changes-at i,
@@ -141,13 +141,13 @@ module _ (n : ℕ) (old new ready woken flags : List ℕ) (few : n ≤ maxTasks)
   unfolding order
   sizes = omega (arith, settled-fits n (keyOf old) (keyOf new) ready woken fits, ap length order-is, length-insertAll (keyOf new) came (insertAll (keyOf new) moved stayed), length-insertAll (keyOf new) moved stayed)
 
-  resettled-queue : resettled (queueOf ready) old new flags n ≡ queueOf (settledReady n (keyOf old) (keyOf new) ready woken)
+  resettled-list : resettled (taskListOf ready) old new flags n ≡ taskListOf (settledReady n (keyOf old) (keyOf new) ready woken)
   unfolding resettled changes order
-  resettled-queue =
-      rw (kept-queueOf changes 0 ready, stayed-is)
-      (ap (λ q. insertedFlagged q new flags n) (flagged-queueOf new (movedOf (queueOf ready) changes) n stayed (omega (arith, sizes, ap length moved-is)))
-      ∙ rw moved-is (flagged-queueOf new flags n (insertAll (keyOf new) moved stayed) (omega (arith, sizes, ap length came-is, length-insertAll (keyOf new) moved stayed))
-      ∙ ap queueOf (rw came-is (sym order-is))))
+  resettled-list =
+      rw (kept-taskListOf changes 0 ready, stayed-is)
+      (ap (λ q. insertedFlagged q new flags n) (flagged-taskListOf new (movedOf (taskListOf ready) changes) n stayed (omega (arith, sizes, ap length moved-is)))
+      ∙ rw moved-is (flagged-taskListOf new flags n (insertAll (keyOf new) moved stayed) (omega (arith, sizes, ap length came-is, length-insertAll (keyOf new) moved stayed))
+      ∙ ap taskListOf (rw came-is (sym order-is))))
 
 -- where no level changed, only those that became ready move
 pub settled-level : (n : ℕ) (f : ℕ → ℕ) (ready woken : List ℕ) → Asc f ready → settledReady n f f ready woken ≡ insertAll f (byId n (λ i. member i woken)) ready
@@ -174,7 +174,7 @@ pub unchanged-pack : (before s : Model) → tasks (s .tables) ≡ tasks (before 
     → ((i : ℕ) → i < tasks (s .tables) → levelIn (s .tables) i ≡ levelOf before i)
     → packWith (levelColumn (before .tables)) s ≡ pack (settle (levelOf before) s [])
 unfolding packWith pack packTasks levelColumn
-unchanged-pack before s e asc lv = ap (λ c. packWith c s) (column-kept before s e lv) ∙ ap (λ l. withReady (pack s) (queueOf l)) (sym still)
+unchanged-pack before s e asc lv = ap (λ c. packWith c s) (column-kept before s e lv) ∙ ap (λ l. withReady (pack s) (taskListOf l)) (sym still)
   where
     still : settledReady (tasks (s .tables)) (levelOf before) (levelOf s) (s .ready) [] ≡ s .ready
     still = settled-same (tasks (s .tables)) (levelOf before) (levelOf s) (s .ready) (λ i m. ap (λ f. f i) (sym (levels-kept before s e lv))) asc
@@ -182,18 +182,18 @@ unchanged-pack before s e asc lv = ap (λ c. packWith c s) (column-kept before s
 -- settling such a state
 module _ (before s : Model) (woken flags : List ℕ) (F : Facts (s .tables)) (same-tasks : tasks (s .tables) ≡ tasks (before .tables)) (P : Places s woken)
     (asc : Asc (levelOf before) (s .ready)) (flagged : (i : ℕ) → eqb (keyOf flags i) 1 ≡ member i woken) where
-  settled-queue : resettled (queueOf (s .ready)) (levelColumn (before .tables)) (levelColumn (s .tables)) flags (tasks (s .tables))
-      ≡ queueOf (settledReady (tasks (s .tables)) (levelOf before) (levelOf s) (s .ready) woken)
-  settled-queue =
-      resettled-queue (tasks (s .tables)) (levelColumn (before .tables)) (levelColumn (s .tables)) (s .ready) woken flags (F .few-tasks)
+  settled-list : resettled (taskListOf (s .ready)) (levelColumn (before .tables)) (levelColumn (s .tables)) flags (tasks (s .tables))
+      ≡ taskListOf (settledReady (tasks (s .tables)) (levelOf before) (levelOf s) (s .ready) woken)
+  settled-list =
+      resettled-list (tasks (s .tables)) (levelColumn (before .tables)) (levelColumn (s .tables)) (s .ready) woken flags (F .few-tasks)
       (length-levels (before .tables) (omega (arith, F .few-tasks))) (length-levels (s .tables) (F .few-tasks)) (λ i. omega (arith, P i))
       (asc-change (levelOf before) (keyOf (levelColumn (before .tables))) (s .ready) (λ y m. sym (key-level (before .tables) y)) asc) flagged
-      ∙ ap (λ f. queueOf (settledReady (tasks (s .tables)) f (keyOf (levelColumn (s .tables))) (s .ready) woken)) (key-levels (before .tables))
-      ∙ ap (λ f. queueOf (settledReady (tasks (s .tables)) (levelOf before) f (s .ready) woken)) (key-levels (s .tables))
+      ∙ ap (λ f. taskListOf (settledReady (tasks (s .tables)) f (keyOf (levelColumn (s .tables))) (s .ready) woken)) (key-levels (before .tables))
+      ∙ ap (λ f. taskListOf (settledReady (tasks (s .tables)) (levelOf before) f (s .ready) woken)) (key-levels (s .tables))
 
   pub settle-pack : settled (packWith (levelColumn (before .tables)) s) flags ≡ pack (settle (levelOf before) s woken)
   unfolding settled packWith pack packTasks levelColumn
-  settle-pack = ap made (new-levels s F (levelColumn (before .tables))) ∙ ap (λ q. withReady (pack s) q) settled-queue
+  settle-pack = ap made (new-levels s F (levelColumn (before .tables))) ∙ ap (λ q. withReady (pack s) q) settled-list
     where
       k : State
       k = packWith (levelColumn (before .tables)) s
@@ -210,12 +210,12 @@ module _ (before s : Model) (woken flags : List ℕ) (F : Facts (s .tables)) (sa
         unmoved : levelOf before ≡ levelOf s
         unmoved = levels-kept before s same-tasks same-levels
 
-    lined-queue : insertedFlagged (queueOf (s .ready)) (levelColumn (s .tables)) flags (tasks (s .tables)) ≡ queueOf (settledReady (tasks (s .tables)) (levelOf before) (levelOf s) (s .ready) woken)
-    lined-queue =
-        flagged-queueOf (levelColumn (s .tables)) flags (tasks (s .tables)) (s .ready) sizes
-        ∙ ap (λ l. queueOf (insertAll (keyOf (levelColumn (s .tables))) l (s .ready))) came
-        ∙ ap (λ f. queueOf (insertAll f (byId (tasks (s .tables)) (λ i. member i woken)) (s .ready))) (key-levels (s .tables))
-        ∙ ap queueOf (sym order-kept)
+    lined-list : insertedFlagged (taskListOf (s .ready)) (levelColumn (s .tables)) flags (tasks (s .tables)) ≡ taskListOf (settledReady (tasks (s .tables)) (levelOf before) (levelOf s) (s .ready) woken)
+    lined-list =
+        flagged-taskListOf (levelColumn (s .tables)) flags (tasks (s .tables)) (s .ready) sizes
+        ∙ ap (λ l. taskListOf (insertAll (keyOf (levelColumn (s .tables))) l (s .ready))) came
+        ∙ ap (λ f. taskListOf (insertAll f (byId (tasks (s .tables)) (λ i. member i woken)) (s .ready))) (key-levels (s .tables))
+        ∙ ap taskListOf (sym order-kept)
       where
         came : byId (tasks (s .tables)) (λ i. eqb (keyOf flags i) 1) ≡ byId (tasks (s .tables)) (λ i. member i woken)
         came = byId-ext (tasks (s .tables)) _ _ (λ i h. flagged i)
@@ -232,4 +232,4 @@ module _ (before s : Model) (woken flags : List ℕ) (F : Facts (s .tables)) (sa
 
     pub lined-pack : lined (packWith (levelColumn (before .tables)) s) flags ≡ pack (settle (levelOf before) s woken)
     unfolding lined packWith pack packTasks levelColumn
-    lined-pack = ap (λ lv. lined (packWith lv s) flags) (column-kept before s same-tasks same-levels) ∙ ap (λ q. withReady (pack s) q) lined-queue
+    lined-pack = ap (λ lv. lined (packWith lv s) flags) (column-kept before s same-tasks same-levels) ∙ ap (λ q. withReady (pack s) q) lined-list

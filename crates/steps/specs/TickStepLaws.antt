@@ -25,7 +25,7 @@ use Rattle.rules.specs.Sound.{waitCount}
 use Rattle.rules.specs.Invariant.{Facts, Inv}
 use Rattle.rules.specs.FactsLaws.{wait-ended, facts-end, facts-age}
 use Rattle.rules.specs.WaiterLaws.{due-waits, not-due, outcome-due, places-end}
-use Rattle.queues.specs.Queue.{keyOf}
+use Rattle.task_lists.specs.TaskList.{keyOf}
 use Rattle.record.specs.Record.{dueAt, kindCode, objectCode, timedCode, dueCode, packTasks, packMutexes, packSemaphores, pack}
 use Rattle.record.specs.StepRecord.{outFor}
 use Rattle.record.specs.Setters.{withLevel}

@@ -17,8 +17,8 @@ use Rattle.rules.specs.Levels.{next, chainOf, sameAwaited, waitIsFor, awaits, w
 use Rattle.rules.specs.Effect.{isDue, due, expiry, outcomeDue, lessOne, age}
 use Rattle.rules.specs.Invariant.{Left, Timed, Facts}
 use Rattle.rules.specs.LevelLaws.{wait-out}
-use Rattle.queues.specs.Queue.{idOf, bestOf}
-use Rattle.queues.specs.QueueLaws.{items-queueOf}
+use Rattle.task_lists.specs.TaskList.{idOf, bestOf}
+use Rattle.task_lists.specs.TaskListLaws.{items-taskListOf}
 use Rattle.walks.specs.Walk.{taskAt, nextIn, chainFrom}
 use Rattle.walks.specs.WalkLaws.{walk-ext}
 use Rattle.record.specs.Record.{ticksLeft, onMutex, onSemaphore, onTime, awaitedKind, awaitedObject, leftCode, kindCode, objectCode, timedCode, dueCode, packTasks, pack}
@@ -139,7 +139,7 @@ best-by : (s : Model) (kind object : ℕ) (a : Awaited) → ((w : Option Wait) �
     → bestAt (pack s) kind object ≡ idOf (bestWaiter (s .tables) a)
 unfolding bestOf bestWaiter waitersOf pack
 best-by s kind object a h = rw (
-  items-queueOf (s .tables .waiting),
+  items-taskListOf (s .tables .waiting),
   fun-ext (level-read (s .tables) (s .clock)),
   fun-ext (λ i. test (kind-read (s .tables) (s .clock) i) (object-read (s .tables) (s .clock) i) ∙ h (waitOf (s .tables) i)),
 ) refl

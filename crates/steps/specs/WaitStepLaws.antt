@@ -27,7 +27,7 @@ use Rattle.rules.specs.Invariant.{Unavailable, Left, Outcome, Facts, Inv}
 use Rattle.rules.specs.FactsLaws.{facts-begin, facts-end, facts-count}
 use Rattle.rules.specs.WaiterLaws.{awaits-waits, sem-blocked, wait-in, best-waits, nobody-best, places-end}
 use Rattle.rules.specs.StepLaws.{left-sem, left-sleep, sleep-no-mutex, caller-in, caller-idle}
-use Rattle.queues.specs.Queue.{noId, keyOf, idOf}
+use Rattle.task_lists.specs.TaskList.{noId, keyOf, idOf}
 use Rattle.record.specs.Record.{onSemaphore, onTime, awaitedKind, awaitedObject, kindCode, packTasks, packMutexes, packSemaphores, pack}
 use Rattle.record.specs.StepRecord.{outFor}
 use Rattle.record.specs.Reads.{countAt, maximumAt}

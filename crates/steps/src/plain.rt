@@ -33,7 +33,7 @@ pub fn task(mut s: State, priority: u32) -> Out
     let p = priority as u8;
     let t = objects::add_task(s.tasks, p);
     let levels = t.level;
-    let q = queues::insert(s.ready, levels, p as u16 + 1, id);
+    let q = task_lists::insert(s.ready, levels, p as u16 + 1, id);
     s.tasks = t;
     s.ready = q;
     answers::accepted(s, 0, id as u32)
@@ -104,8 +104,8 @@ pub fn yield_now(mut s: State) -> Out
     }
     let t = s.tasks;
     let levels = t.level;
-    let level = queues::key_of(levels, id) as u16;
-    let q = queues::insert(s.ready, levels, level + 1, id);
+    let level = task_lists::key_of(levels, id) as u16;
+    let q = task_lists::insert(s.ready, levels, level + 1, id);
     s.ready = q;
     s.running = NONE;
     let d = settle::dispatch(s);
@@ -171,7 +171,7 @@ pub fn level(s: State, i: u32) -> Out
     }
     let t = s.tasks;
     let levels = t.level;
-    let v = queues::key_of(levels, i as u8);
+    let v = task_lists::key_of(levels, i as u8);
     answers::accepted(s, 0, v as u32)
 }
 
@@ -183,6 +183,6 @@ pub fn outcome(s: State, i: u32) -> Out
     }
     let t = s.tasks;
     let outcomes = t.outcome;
-    let v = queues::key_of(outcomes, i as u8);
+    let v = task_lists::key_of(outcomes, i as u8);
     answers::accepted(s, 0, v as u32)
 }

@@ -2,7 +2,7 @@
 ghost use mathlib.Core.Path.{_≡_};
 ghost use Rattle.steps.specs.Machine.{resettled, settled, without, ran, displaced, dispatched, woke, lined, blockedOn};
 use crate::tables;
-use queues::Queue;
+use task_lists::TaskList;
 use record::FOREVER;
 use record::NONE;
 use record::State;
@@ -10,15 +10,15 @@ use record::TASKS;
 use record::leads;
 
 // The ready order by the new levels: those whose level changed, and then the woken ones, by id at the tail of their level.
-fn resettle(q: Queue, old: [u8; TASKS], new: [u8; TASKS], woken: [u8; TASKS], n: u8) -> Queue
+fn resettle(q: TaskList, old: [u8; TASKS], new: [u8; TASKS], woken: [u8; TASKS], n: u8) -> TaskList
     ensures { λ r. ⌜ r ≡ resettled q old new woken n ⌝ }
 {
     let changed = tables::differ(old, new);
-    let there = queue_checks::count_in([0u8; TASKS], q);
+    let there = task_list_checks::count_in([0u8; TASKS], q);
     let moved = tables::both(changed, there);
-    let stay = queues::keep_flagged(q, changed, 0);
-    let back = queues::insert_flagged(stay, new, moved, n);
-    queues::insert_flagged(back, new, woken, n)
+    let stay = task_lists::keep_flagged(q, changed, 0);
+    let back = task_lists::insert_flagged(stay, new, moved, n);
+    task_lists::insert_flagged(back, new, woken, n)
 }
 
 // Levels are as defined, and the ready order follows them.
@@ -35,15 +35,15 @@ pub fn settle(mut s: State, woken: [u8; TASKS]) -> State
     s
 }
 
-// The queue without `id`.
-fn without_id(q: Queue, id: u8) -> Queue
+// The list without `id`.
+fn without_id(q: TaskList, id: u8) -> TaskList
     ensures { λ r. ⌜ r ≡ without q id ⌝ }
 {
     let f = tables::only(id);
-    queues::keep_flagged(q, f, 0)
+    task_lists::keep_flagged(q, f, 0)
 }
 
-fn run(mut s: State, id: u8, q: Queue) -> State
+fn run(mut s: State, id: u8, q: TaskList) -> State
     ensures { λ r. ⌜ r ≡ ran s id q ⌝ }
 {
     s.ready = q;
@@ -60,8 +60,8 @@ fn displace(s: State, x: u8) -> State
     let levels = t.level;
     let old = s.running;
     let rest = without_id(q, x);
-    let level = queues::key_of(levels, old) as u16;
-    let order = queues::insert(rest, levels, level, old);
+    let level = task_lists::key_of(levels, old) as u16;
+    let order = task_lists::insert(rest, levels, level, old);
     run(s, x, order)
 }
 
@@ -86,7 +86,7 @@ pub fn dispatch(s: State) -> State
     }
     let t = s.tasks;
     let levels = t.level;
-    if queues::key_of(levels, x) < queues::key_of(levels, s.running) {
+    if task_lists::key_of(levels, x) < task_lists::key_of(levels, s.running) {
         return displace(s, x);
     }
     s
@@ -97,7 +97,7 @@ pub fn wake(mut s: State, flags: [u8; TASKS], slept: u8, other: u8) -> State
     ensures { λ r. ⌜ r ≡ woke s flags slept other ⌝ }
 {
     let t = tables::end_where(s.tasks, flags, slept, other);
-    let q = queues::keep_flagged(s.waiting, flags, 0);
+    let q = task_lists::keep_flagged(s.waiting, flags, 0);
     s.tasks = t;
     s.waiting = q;
     s
@@ -109,7 +109,7 @@ pub fn line_up(mut s: State, flags: [u8; TASKS]) -> State
 {
     let t = s.tasks;
     let levels = t.level;
-    let q = queues::insert_flagged(s.ready, levels, flags, t.n);
+    let q = task_lists::insert_flagged(s.ready, levels, flags, t.n);
     s.ready = q;
     s
 }
@@ -118,7 +118,7 @@ pub fn line_up(mut s: State, flags: [u8; TASKS]) -> State
 pub fn block(mut s: State, id: u8, kind: u8, object: u8, time: u32) -> State
     ensures { λ r. ⌜ r ≡ blockedOn s id kind object time ⌝ }
 {
-    let q = queues::push(s.waiting, id);
+    let q = task_lists::push(s.waiting, id);
     s.waiting = q;
     s.running = NONE;
     if time == FOREVER {

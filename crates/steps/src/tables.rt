@@ -56,11 +56,11 @@ pub fn end_wait(mut t: Tasks, i: u8, outcome: u8) -> Tasks
 fn end_if(t: Tasks, flags: [u8; TASKS], slept: u8, other: u8, i: u8) -> Tasks
     ensures { λ r. ⌜ r ≡ endedIf t flags slept other i ⌝ }
 {
-    if queues::key_of(flags, i) != 1 {
+    if task_lists::key_of(flags, i) != 1 {
         return t;
     }
     let kinds = t.wait;
-    if queues::key_of(kinds, i) == ON_TIME {
+    if task_lists::key_of(kinds, i) == ON_TIME {
         return end_wait(t, i, slept);
     }
     end_wait(t, i, other)

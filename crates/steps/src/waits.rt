@@ -128,7 +128,7 @@ pub fn unlock(s: State, m: u32) -> Out
     let kinds = t.wait;
     let objects = t.object;
     let urgency = t.level;
-    let w = queues::best_waiter(s.waiting, kinds, objects, urgency, ON_MUTEX, j);
+    let w = task_lists::best_waiter(s.waiting, kinds, objects, urgency, ON_MUTEX, j);
     let r = pass(s, j, w);
     answers::accepted(r, 0, 0)
 }
@@ -197,7 +197,7 @@ pub fn post(s: State, k: u32) -> Out
     let kinds = t.wait;
     let objects = t.object;
     let levels = t.level;
-    let w = queues::best_waiter(s.waiting, kinds, objects, levels, ON_SEMAPHORE, j);
+    let w = task_lists::best_waiter(s.waiting, kinds, objects, levels, ON_SEMAPHORE, j);
     credit(s, j, w)
 }
 

@@ -58,5 +58,5 @@ lineOf x = joined tab (rowOf x)
 abbrev pub Within : List ℕ → Type 0
 Within l = (i : ℕ) → getD l i 0 ≤ most
 
-abbrev pub Fits : Step → Type 0
-Fits x = Within (numbersIn x)
+abbrev pub NumbersFit : Step → Type 0
+NumbersFit x = Within (numbersIn x)

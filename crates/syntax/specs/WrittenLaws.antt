@@ -24,7 +24,7 @@ use Rattle.syntax.specs.Ascii.{ascii}
 use Rattle.syntax.specs.Form.{longest, Form, plain, withOne, withTwo, Word, words, sameBytes, formOf, withNumber, numbersOf, madeBy, madeFrom, stepIn, stepOn}
 use Rattle.syntax.specs.SameLaws.{same-equal}
 use Rattle.syntax.specs.FormLaws.{made-back}
-use Rattle.syntax.specs.Written.{nameOf, numbersIn, rowOf, lineOf, Within, Fits}
+use Rattle.syntax.specs.Written.{nameOf, numbersIn, rowOf, lineOf, Within, NumbersFit}
 
 -- rows without a tab, joined by tabs and cut again
 free-tail : (c : ℕ) (p : List ℕ) → Free tab (c ∷ p) → (eqb c tab ≡ false) × Free tab p
@@ -128,7 +128,7 @@ unfolding lineOf joined
 line-short x = omega (arith, length-append (nameOf x) (behind tab (map decimal (numbersIn x))), numbers-length (numbersIn x), row-length x)
 
 -- a step's line is that step
-pub written-read : (x : Step) → Fits x → stepOn (lineOf x) ≡ some x
+pub written-read : (x : Step) → NumbersFit x → stepOn (lineOf x) ≡ some x
 unfolding stepOn stepIn lineOf
 written-read x h =
     let fits : length (lineOf x) ≤ longest = omega (arith, line-short x) in
@@ -222,7 +222,7 @@ made-split none q x h g = none-some refl h
 made-split (some f) none x h g = none-some refl h
 made-split (some f) (some l) x h g = g f l refl refl h
 
-row-read : (fs : List (List ℕ)) (x : Step) → stepIn fs ≡ some x → Fits x × (rowOf x ≡ fs)
+row-read : (fs : List (List ℕ)) (x : Step) → stepIn fs ≡ some x → NumbersFit x × (rowOf x ≡ fs)
 unfolding stepIn
 row-read [] x h = none-some refl h
 row-read (n ∷ fs) x h = made-split (formOf n words) (numbersOf fs) x h (λ f l e g m.
@@ -231,7 +231,7 @@ row-read (n ∷ fs) x h = made-split (formOf n words) (numbersOf fs) x h (λ f l
     (rw (r .1) (s .0), rw (r .0, r .1, s .1)))
 
 -- a line that is a step is that step's line
-pub read-written : (line : List ℕ) (x : Step) → stepOn line ≡ some x → Fits x × (lineOf x ≡ line)
+pub read-written : (line : List ℕ) (x : Step) → stepOn line ≡ some x → NumbersFit x × (lineOf x ≡ line)
 unfolding stepOn lineOf
 read-written line x h = elim (which (leb (length line) longest)) [
   | inl e ↦ (let r = row-read (fields line) x (rw e at h) in (r .0, ap (joined tab) (r .1) ∙ fields-line line))

@@ -6,7 +6,7 @@ use native.Mathlib.Omega.{arith}
 use lib.ListN.{length, getD, drop}
 use Rattle.decimal.specs.Parse.{most, withDigit, withDigits, parsed}
 use Rattle.decimal.specs.declared.Number.the-variants.{Value, Bad}
-use Rattle.decimal.specs.ParseLaws.{taken, digits-step, digits-end, parsed-none, parsed-lone, parsed-leading, parsed-digits}
+use Rattle.decimal.specs.ParseLaws.{digit-was, digits-step, digits-end, parsed-none, parsed-lone, parsed-leading, parsed-digits}
 use Rattle.decimal.proofs.parse.Statement.{statement}
 use Rattle.decimal.proofs.parse.Tie as tie
 
@@ -51,7 +51,7 @@ loop-holds c =
     let s = b .before .before .before .args .s .now in
     let h : 0 < length s = omega arith in
     let e : withDigit 0 (getD s 0 0) ≡ Value (c .before .start .given .0 .0) = sym (c .before .before .before .with-digit .ensures) ∙ c .before .start .given .1 in
-    (omega arith, taken _ _ _ e .fits, sym (parsed-digits s h (c .before .before .before .before .if2 .left) ∙ (rw e at (digits-step 0 s 0 h))))
+    (omega arith, digit-was _ _ _ e .fits, sym (parsed-digits s h (c .before .before .before .before .if2 .left) ∙ (rw e at (digits-step 0 s 0 h))))
 
 shared-slice-read-with-digit : tie.Need-shared-slice-read-with-digit Inv-loop μ-loop
 shared-slice-read-with-digit c = search needs
@@ -81,7 +81,7 @@ loop-again : tie.Need-loop-again Inv-loop μ-loop
 loop-again c =
     let l = c .before .before .before .before .before .before .loop in
     let e = sym (c .before .before .before .with-digit2 .ensures) ∙ c .before .more .given .1 in
-    (omega arith, taken _ _ _ e .fits, rw (digits-step _ _ _ (c .before .before .before .before .before .loop-test .taken), e) at (l .inv .2))
+    (omega arith, digit-was _ _ _ e .fits, rw (digits-step _ _ _ (c .before .before .before .before .before .loop-test .taken), e) at (l .inv .2))
 
 returns-6 : tie.Need-returns-6 Inv-loop μ-loop
 returns-6 c = sym (digits-end _ _ _ (c .loop-test .left)) ∙ c .before .loop .inv .2

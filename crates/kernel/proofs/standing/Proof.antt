@@ -1,7 +1,7 @@
 -- `standing`: by the test of the record, and by whether the id is a task's.
 use mathlib.Core.Path.{sym, _∙_}
 use borrow.Author.Tests.{lt-ltb, le-ltb}
-use Rattle.queues.specs.Queue.{idOf}
+use Rattle.task_lists.specs.TaskList.{idOf}
 use Rattle.record.specs.DemandRecord.{standingIn}
 use borrow.Author.Needs.{needs}
 use Rattle.kernel.proofs.standing.Statement.{statement}

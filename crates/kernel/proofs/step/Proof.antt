@@ -1,7 +1,7 @@
 -- `step`: on a sound record what the machine answers, which is what the rules answer; else 15.
 use mathlib.Core.Path.{sym, _∙_}
 use Rattle.record.specs.StepRecord.{stays, stepOf}
-use Rattle.queues.specs.Queue.{idOf}
+use Rattle.task_lists.specs.TaskList.{idOf}
 use Rattle.steps.specs.MachineLaws.{sound-step}
 use borrow.Author.Needs.{needs}
 use Rattle.kernel.proofs.step.Statement.{statement}

@@ -1,7 +1,7 @@
 -- `fresh`: the packed fresh state, computed.
 use mathlib.Core.Path.{refl}
 use Rattle.lists.specs.Table.{pad, filled}
-use Rattle.queues.specs.Queue.{queueOf, idOf}
+use Rattle.task_lists.specs.TaskList.{taskListOf, idOf}
 use Rattle.rules.specs.State.{fresh}
 use Rattle.record.specs.Record.{packTasks, packMutexes, packSemaphores, pack}
 use Rattle.record.specs.DemandRecord.{freshRecord}
@@ -9,7 +9,7 @@ use Rattle.record.proofs.first.fresh.Statement.{statement}
 use Rattle.record.proofs.first.fresh.Tie as tie
 
 returns : tie.Need-returns
-unfolding freshRecord fresh pack packTasks packMutexes packSemaphores pad filled queueOf idOf
+unfolding freshRecord fresh pack packTasks packMutexes packSemaphores pad filled taskListOf idOf
 returns c = refl
 
 pub fresh-spec : {M : Type 1} → statement M

@@ -3,7 +3,7 @@ use borrow.Author.Needs.{needs}
 use mathlib.Core.Path.{_≡_}
 use Prim.Native.Nat.{_-_, _≤_}
 use native.Mathlib.Omega.{arith}
-use Rattle.queues.specs.Queue.{noId}
+use Rattle.task_lists.specs.TaskList.{noId}
 use Rattle.record.specs.Reads.{lendsAt}
 use Rattle.lists.specs.FillLaws.{fill-done, fill-more, fill-none, soFar}
 use Rattle.rules.specs.Sizes.{maxTasks}

@@ -6,7 +6,7 @@ use native.Mathlib.Omega.{arith}
 use mathlib.Core.List.{_++_}
 use lib.ListN.{length, take, drop}
 use borrow.Rule.Slice.PartMut.{same-len-mid}
-use Rattle.arrive.specs.Feed.{fed, carryAfter, eventsOf}
+use Rattle.arrive.specs.Feed.{fed, carryAfter, arrivalsOf}
 use Rattle.script.specs.Session.{foundMemory, turned, Stand, movedTo, Through, through, pieceRun}
 use Rattle.script.specs.SessionLaws.{rest-part, rest-back, turn-on, turn-short, turn-again, through-end}
 use Rattle.script.proofs.session.arrive.Statement.{statement}
@@ -79,7 +79,7 @@ loop-again c =
       n .kept .1 .1 .1 .0 ∙ l .inv .2,
       turn-again bytes (l .at) (before-turn c) (l .carry) (l .held) more (n .result) (turn-is c) _ (n .ensures .1 .0) _
           (rest-back (l .log) (l .written) (n .last .1 .1 .1 .1 .1 .1 .0)
-          ∙ ap (λ m. take (l .written) (l .log) ++ m) (n .ensures .1 .1 ∙ ap (foundMemory (l .s) (l .stage) (eventsOf (carryAfter (l .carry) (l .held) bytes (l .at)) bytes (fed (l .carry) (l .held) bytes (l .at) .found))) (rest-part (l .log) (l .written))))
+          ∙ ap (λ m. take (l .written) (l .log) ++ m) (n .ensures .1 .1 ∙ ap (foundMemory (l .s) (l .stage) (arrivalsOf (carryAfter (l .carry) (l .held) bytes (l .at)) bytes (fed (l .carry) (l .held) bytes (l .at) .found))) (rest-part (l .log) (l .written))))
           ∙ l .inv .3,
     )
 

@@ -1,7 +1,7 @@
 -- `take`: by where the script stands.
 use mathlib.Core.Path.{refl}
 use borrow.Author.Tests.{eq-eqb, ne-eqb}
-use Rattle.script.specs.Session.{taken, takenMemory}
+use Rattle.script.specs.Session.{lineTaken, takenMemory}
 use borrow.Author.Needs.{needs}
 use Rattle.script.proofs.session.take.Statement.{statement}
 use Rattle.script.proofs.session.take.Tie as tie
@@ -13,7 +13,7 @@ same-length : tie.Need-same-length
 same-length c = search needs
 
 returns : tie.Need-returns
-unfolding taken takenMemory
+unfolding lineTaken takenMemory
 returns c =
     let r = c .before .before .before .run-line in
     let e = eq-eqb _ _ (c .before .before .before .before .before .if1 .taken) in
@@ -26,7 +26,7 @@ same-length-2 : tie.Need-same-length-2
 same-length-2 c = search needs
 
 returns-2 : tie.Need-returns-2
-unfolding taken takenMemory
+unfolding lineTaken takenMemory
 returns-2 c =
     let h = c .before .before .run-header in
     let e = eq-eqb _ _ (c .before .before .before .before .if2 .taken) in
@@ -34,7 +34,7 @@ returns-2 c =
     (rw (d, e) (λ i. record { state = c .before .before .before .before .before .before .before .before .args .s; stage = h .ensures .0 i .stage; written = h .ensures .0 i .written }), rw (d, e) (h .ensures .1))
 
 returns-3 : tie.Need-returns-3
-unfolding taken takenMemory
+unfolding lineTaken takenMemory
 returns-3 c =
     let e = ne-eqb _ _ (c .if2 .left) in
     let d = ne-eqb _ _ (c .before .if1 .left) in

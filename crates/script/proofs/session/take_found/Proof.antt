@@ -1,7 +1,7 @@
 -- `take_found`: by what was found.
 use mathlib.Core.Path.{refl, ap, _∙_}
-use Rattle.script.specs.Session.{taken, takenMemory, foundTaken, foundMemory}
-use Rattle.script.specs.SessionLaws.{nothingb, line-taken, line-memory}
+use Rattle.script.specs.Session.{lineTaken, takenMemory, foundTaken, foundMemory}
+use Rattle.script.specs.SessionLaws.{nothingb, line-lineTaken, line-memory}
 use borrow.Author.Needs.{needs}
 use Rattle.script.proofs.session.take_found.Statement.{statement}
 use Rattle.script.proofs.session.take_found.Tie as tie
@@ -40,7 +40,7 @@ returns c =
     let l = c .before .before .before .before .before .before .line .ensures in
     let a = c .before .before .before .before .before .before .before .before .before .before .args in
     let e = ap nothingb (c .before .before .before .before .enum-told .given .1) in (
-      t .ensures .0 ∙ ap (λ l. taken (a .s) (a .stage) l (a .log .now)) l ∙ line-taken (a .s) (a .stage) (a .carry .now) (a .bytes .now) (a .log .now) (a .found) e,
+      t .ensures .0 ∙ ap (λ l. lineTaken (a .s) (a .stage) l (a .log .now)) l ∙ line-lineTaken (a .s) (a .stage) (a .carry .now) (a .bytes .now) (a .log .now) (a .found) e,
       t .ensures .1 ∙ ap (λ l. takenMemory (a .s) (a .stage) l (a .log .now)) l ∙ line-memory (a .s) (a .stage) (a .carry .now) (a .bytes .now) (a .log .now) (a .found) e,
     )
 
@@ -54,7 +54,7 @@ returns-2 c =
     let l = c .before .before .before .before .before .before .line .ensures in
     let a = c .before .before .before .before .before .before .before .before .before .before .args in
     let e = ap nothingb (c .before .before .before .before .enum-told2 .given .1) in (
-      t .ensures .0 ∙ ap (λ l. taken (a .s) (a .stage) l (a .log .now)) l ∙ line-taken (a .s) (a .stage) (a .carry .now) (a .bytes .now) (a .log .now) (a .found) e,
+      t .ensures .0 ∙ ap (λ l. lineTaken (a .s) (a .stage) l (a .log .now)) l ∙ line-lineTaken (a .s) (a .stage) (a .carry .now) (a .bytes .now) (a .log .now) (a .found) e,
       t .ensures .1 ∙ ap (λ l. takenMemory (a .s) (a .stage) l (a .log .now)) l ∙ line-memory (a .s) (a .stage) (a .carry .now) (a .bytes .now) (a .log .now) (a .found) e,
     )
 
@@ -68,7 +68,7 @@ returns-3 c =
     let l = c .before .before .before .before .before .before .line .ensures in
     let a = c .before .before .before .before .before .before .before .before .before .before .args in
     let e = ap nothingb (c .before .before .before .before .enum-told3 .given .1) in (
-      t .ensures .0 ∙ ap (λ l. taken (a .s) (a .stage) l (a .log .now)) l ∙ line-taken (a .s) (a .stage) (a .carry .now) (a .bytes .now) (a .log .now) (a .found) e,
+      t .ensures .0 ∙ ap (λ l. lineTaken (a .s) (a .stage) l (a .log .now)) l ∙ line-lineTaken (a .s) (a .stage) (a .carry .now) (a .bytes .now) (a .log .now) (a .found) e,
       t .ensures .1 ∙ ap (λ l. takenMemory (a .s) (a .stage) l (a .log .now)) l ∙ line-memory (a .s) (a .stage) (a .carry .now) (a .bytes .now) (a .log .now) (a .found) e,
     )
 

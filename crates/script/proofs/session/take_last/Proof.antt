@@ -1,7 +1,7 @@
 -- `take_last`: by what was left, and by where the script stands.
 use mathlib.Core.Path.{refl, ap, _∙_}
 use mathlib.Core.List.{[]}
-use Rattle.arrive.specs.Feed.{eventsOf}
+use Rattle.arrive.specs.Feed.{arrivalsOf}
 use Rattle.script.specs.Session.{foundTaken, foundMemory, lineIn}
 use Rattle.script.specs.SessionLaws.{left-none, left-over, left-line}
 use borrow.Author.Needs.{needs}
@@ -44,8 +44,8 @@ returns-3 c =
     let f = c .before .before .before .before .finish .ensures in
     let t = c .before .before .take-found in
     rw (left-line (a .stage) (a .carry .now) (a .held) (c .before .before .before .before .before .if1 .left)) (
-      t .ensures .0 ∙ ap (λ g. foundTaken (a .s) (a .stage) (eventsOf (a .carry .now) [] g) (a .log .now)) f,
-      t .ensures .1 ∙ ap (λ g. foundMemory (a .s) (a .stage) (eventsOf (a .carry .now) [] g) (a .log .now)) f,
+      t .ensures .0 ∙ ap (λ g. foundTaken (a .s) (a .stage) (arrivalsOf (a .carry .now) [] g) (a .log .now)) f,
+      t .ensures .1 ∙ ap (λ g. foundMemory (a .s) (a .stage) (arrivalsOf (a .carry .now) [] g) (a .log .now)) f,
     )
 
 pub take-last-spec : {M : Type 1} → statement M

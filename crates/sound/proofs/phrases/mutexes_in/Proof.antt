@@ -6,26 +6,26 @@ use Prim.Native.Nat.{_-_, _≤_}
 use native.Mathlib.Omega.{arith}
 use Rattle.lists.specs.Test.{allb}
 use Rattle.walks.proofs.Laws.{all-none, all-step, all-done, all-fails}
-use Rattle.sound.specs.Checks.{mutexIn, mutexesIn}
+use Rattle.sound.specs.Checks.{mutexInRange, mutexesIn}
 use Rattle.sound.proofs.SoundCode.{passed, failed}
 use Rattle.sound.proofs.phrases.mutexes_in.Statement.{statement}
 use Rattle.sound.proofs.phrases.mutexes_in.Tie as tie
 
 abbrev Inv-loop : tie.InvT-loop
-Inv-loop m n j₀ j-end j = (j ≤ j-end) × (true ≡ allb j (mutexIn m n))
+Inv-loop m n j₀ j-end j = (j ≤ j-end) × (true ≡ allb j (mutexInRange m n))
 
 abbrev μ-loop : tie.MeasureT-loop
 μ-loop m n j₀ j-end j = j-end - j
 
 loop-holds : tie.Need-loop-holds Inv-loop μ-loop
-loop-holds c = (search needs, all-none (mutexIn (c .args .m) (c .args .n)))
+loop-holds c = (search needs, all-none (mutexInRange (c .args .m) (c .args .n)))
 
 mutex-in-requires : tie.Need-mutex-in-requires Inv-loop μ-loop
 mutex-in-requires c κs = search needs
 
 returns : tie.Need-returns Inv-loop μ-loop
 unfolding mutexesIn
-returns c = all-fails (mutexIn (c .before .before .before .before .args .m) (c .before .before .before .before .args .n)) (c .before .before .before .loop .j) (c .before .before .before .before .args .m .n) (omega arith) (sym (failed (c .before .mutex-in .ensures) (c .if1 .taken)))
+returns c = all-fails (mutexInRange (c .before .before .before .before .args .m) (c .before .before .before .before .args .n)) (c .before .before .before .loop .j) (c .before .before .before .before .args .m .n) (omega arith) (sym (failed (c .before .mutex-in .ensures) (c .if1 .taken)))
 
 add-j : tie.Need-add-j Inv-loop μ-loop
 add-j c = search needs
@@ -34,11 +34,11 @@ loop-less : tie.Need-loop-less Inv-loop μ-loop
 loop-less c = search needs
 
 loop-again : tie.Need-loop-again Inv-loop μ-loop
-loop-again c = (search needs, all-step (mutexIn (c .before .before .before .before .args .m) (c .before .before .before .before .args .n)) (c .before .before .before .loop .j) (c .before .before .before .loop .inv .1) (sym (passed (c .before .mutex-in .ensures) (c .if1 .left))))
+loop-again c = (search needs, all-step (mutexInRange (c .before .before .before .before .args .m) (c .before .before .before .before .args .n)) (c .before .before .before .loop .j) (c .before .before .before .loop .inv .1) (sym (passed (c .before .mutex-in .ensures) (c .if1 .left))))
 
 returns-2 : tie.Need-returns-2 Inv-loop μ-loop
 unfolding mutexesIn
-returns-2 c = all-done (mutexIn (c .before .before .args .m) (c .before .before .args .n)) (c .before .loop .j) (c .before .before .args .m .n) (omega arith) (c .before .loop .inv .1)
+returns-2 c = all-done (mutexInRange (c .before .before .args .m) (c .before .before .args .n)) (c .before .loop .j) (c .before .before .args .m .n) (omega arith) (c .before .loop .inv .1)
 
 pub mutexes-in-spec : {M : Type 1} → statement M
 mutexes-in-spec =

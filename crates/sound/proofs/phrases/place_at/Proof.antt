@@ -6,14 +6,14 @@ use mathlib.Core.Logic.{⊎-elim}
 use lib.Dec.{eqb}
 use borrow.Author.Tests.{eq-eqb, ne-eqb}
 use Rattle.lists.specs.Test.{_and_}
-use Rattle.queues.specs.Queue.{keyOf}
+use Rattle.task_lists.specs.TaskList.{keyOf}
 use Rattle.sound.specs.Checks.{placeAt}
 use Rattle.sound.proofs.SoundCode.{none-more, one-more}
 use Rattle.sound.proofs.phrases.place_at.Statement.{statement}
 use Rattle.sound.proofs.phrases.place_at.Tie as tie
 use Rattle.sound.proofs.phrases.place_at.Reads as reads
 use Rattle.sound.proofs.phrases.place_at.Lts as lts
-use Rattle.queues.proofs.key_of.Reads as key-of-reads
+use Rattle.task_lists.proofs.key_of.Reads as key-of-reads
 
 -- how often the task has to stand among the waiting
 expected-is : (c : lts.Joined1 (key-of-reads.Asked, key-of-reads.Learnt) reads.Pre reads.Post) → c .if1 .expected ≡ cond (eqb (keyOf (c .before .before .before .before .args .s .tasks .wait) (c .before .before .before .before .args .i)) 0) 0 1

@@ -17,8 +17,8 @@ use Rattle.sound.proofs.phrases.places_in.Tie as tie
 use Rattle.sound.proofs.phrases.places_in.Reads as reads
 use Rattle.sound.proofs.phrases.places_in.Lts as lts
 use Rattle.sound.proofs.phrases.place_at.Reads as place-at-reads
-use Rattle.queue_checks.proofs.count_in.Reads as count-in-reads
-use Rattle.queue_checks.proofs.ids_below.Reads as ids-below-reads
+use Rattle.task_list_checks.proofs.count_in.Reads as count-in-reads
+use Rattle.task_list_checks.proofs.ids_below.Reads as ids-below-reads
 
 abbrev Inv-loop : tie.InvT-loop
 Inv-loop s n waits all i₀ i = (i ≤ n) × (true ≡ allb i (placeAt s waits all))

@@ -28,30 +28,30 @@ returns-3 : tie.Need-returns-3
 unfolding tidyb _and_
 returns-3 c = rw (passed (c .before .before .before .before .before .tasks-tidy .ensures) (c .before .before .before .before .if1 .left), passed (c .before .before .before .mutexes-tidy .ensures) (c .before .before .if2 .left), failed (c .before .semaphores-tidy .ensures) (c .if3 .taken))
 
-queue-tidy-requires : tie.Need-queue-tidy-requires
-queue-tidy-requires c κs = search needs
+task-list-tidy-requires : tie.Need-task-list-tidy-requires
+task-list-tidy-requires c κs = search needs
 
 returns-4 : tie.Need-returns-4
 unfolding tidyb _and_
-returns-4 c = rw (passed (c .before .before .before .before .before .before .before .tasks-tidy .ensures) (c .before .before .before .before .before .before .if1 .left), passed (c .before .before .before .before .before .mutexes-tidy .ensures) (c .before .before .before .before .if2 .left), passed (c .before .before .before .semaphores-tidy .ensures) (c .before .before .if3 .left), failed (c .before .queue-tidy .ensures) (c .if4 .taken))
+returns-4 c = rw (passed (c .before .before .before .before .before .before .before .tasks-tidy .ensures) (c .before .before .before .before .before .before .if1 .left), passed (c .before .before .before .before .before .mutexes-tidy .ensures) (c .before .before .before .before .if2 .left), passed (c .before .before .before .semaphores-tidy .ensures) (c .before .before .if3 .left), failed (c .before .task-list-tidy .ensures) (c .if4 .taken))
 
-queue-tidy-requires-2 : tie.Need-queue-tidy-requires-2
-queue-tidy-requires-2 c κs = search needs
+task-list-tidy-requires-2 : tie.Need-task-list-tidy-requires-2
+task-list-tidy-requires-2 c κs = search needs
 
 returns-5 : tie.Need-returns-5
 unfolding tidyb _and_
-returns-5 c = rw (passed (c .before .before .before .before .before .before .before .before .before .tasks-tidy .ensures) (c .before .before .before .before .before .before .before .before .if1 .left), passed (c .before .before .before .before .before .before .before .mutexes-tidy .ensures) (c .before .before .before .before .before .before .if2 .left), passed (c .before .before .before .before .before .semaphores-tidy .ensures) (c .before .before .before .before .if3 .left), passed (c .before .before .before .queue-tidy .ensures) (c .before .before .if4 .left), failed (c .before .queue-tidy2 .ensures) (c .if5 .taken))
+returns-5 c = rw (passed (c .before .before .before .before .before .before .before .before .before .tasks-tidy .ensures) (c .before .before .before .before .before .before .before .before .if1 .left), passed (c .before .before .before .before .before .before .before .mutexes-tidy .ensures) (c .before .before .before .before .before .before .if2 .left), passed (c .before .before .before .before .before .semaphores-tidy .ensures) (c .before .before .before .before .if3 .left), passed (c .before .before .before .task-list-tidy .ensures) (c .before .before .if4 .left), failed (c .before .task-list-tidy2 .ensures) (c .if5 .taken))
 
 returns-6 : tie.Need-returns-6
 unfolding tidyb _and_
-returns-6 c = rw (passed (c .before .before .before .before .before .before .before .before .before .before .before .tasks-tidy .ensures) (c .before .before .before .before .before .before .before .before .before .before .if1 .left), passed (c .before .before .before .before .before .before .before .before .before .mutexes-tidy .ensures) (c .before .before .before .before .before .before .before .before .if2 .left), passed (c .before .before .before .before .before .before .before .semaphores-tidy .ensures) (c .before .before .before .before .before .before .if3 .left), passed (c .before .before .before .before .before .queue-tidy .ensures) (c .before .before .before .before .if4 .left), passed (c .before .before .before .queue-tidy2 .ensures) (c .before .before .if5 .left), lt-leb _ _ (c .if6 .taken))
+returns-6 c = rw (passed (c .before .before .before .before .before .before .before .before .before .before .before .tasks-tidy .ensures) (c .before .before .before .before .before .before .before .before .before .before .if1 .left), passed (c .before .before .before .before .before .before .before .before .before .mutexes-tidy .ensures) (c .before .before .before .before .before .before .before .before .if2 .left), passed (c .before .before .before .before .before .before .before .semaphores-tidy .ensures) (c .before .before .before .before .before .before .if3 .left), passed (c .before .before .before .before .before .task-list-tidy .ensures) (c .before .before .before .before .if4 .left), passed (c .before .before .before .task-list-tidy2 .ensures) (c .before .before .if5 .left), lt-leb _ _ (c .if6 .taken))
 
 is-id-requires : tie.Need-is-id-requires
 is-id-requires c κs = search needs
 
 returns-7 : tie.Need-returns-7
 unfolding tidyb _and_
-returns-7 c = rw (passed (c .before .before .before .before .before .before .before .before .before .before .before .before .tasks-tidy .ensures) (c .before .before .before .before .before .before .before .before .before .before .before .if1 .left), passed (c .before .before .before .before .before .before .before .before .before .before .mutexes-tidy .ensures) (c .before .before .before .before .before .before .before .before .before .if2 .left), passed (c .before .before .before .before .before .before .before .before .semaphores-tidy .ensures) (c .before .before .before .before .before .before .before .if3 .left), passed (c .before .before .before .before .before .before .queue-tidy .ensures) (c .before .before .before .before .before .if4 .left), passed (c .before .before .before .before .queue-tidy2 .ensures) (c .before .before .before .if5 .left), le-leb _ _ (c .before .if6 .left)) (c .is-id .ensures)
+returns-7 c = rw (passed (c .before .before .before .before .before .before .before .before .before .before .before .before .tasks-tidy .ensures) (c .before .before .before .before .before .before .before .before .before .before .before .if1 .left), passed (c .before .before .before .before .before .before .before .before .before .before .mutexes-tidy .ensures) (c .before .before .before .before .before .before .before .before .before .if2 .left), passed (c .before .before .before .before .before .before .before .before .semaphores-tidy .ensures) (c .before .before .before .before .before .before .before .if3 .left), passed (c .before .before .before .before .before .before .task-list-tidy .ensures) (c .before .before .before .before .before .if4 .left), passed (c .before .before .before .before .task-list-tidy2 .ensures) (c .before .before .before .if5 .left), le-leb _ _ (c .before .if6 .left)) (c .is-id .ensures)
 
 pub tidy-spec : {M : Type 1} → statement M
 tidy-spec =
@@ -63,9 +63,9 @@ tidy-spec =
     returns-2
     semaphores-tidy-requires
     returns-3
-    queue-tidy-requires
+    task-list-tidy-requires
     returns-4
-    queue-tidy-requires-2
+    task-list-tidy-requires-2
     returns-5
     returns-6
     is-id-requires

@@ -4,7 +4,7 @@ use mathlib.Core.Path.{_≡_}
 use Prim.Native.Nat.{_-_}
 use native.Mathlib.Omega.{arith}
 use lib.ListN.{length}
-use Rattle.arrive.specs.FeedEventLaws.{feed-on}
+use Rattle.arrive.specs.FeedArrivalLaws.{feed-on}
 use Rattle.text_check.proofs.arrivals.piece.Statement.{statement}
 use Rattle.text_check.proofs.arrivals.piece.Tie as tie
 

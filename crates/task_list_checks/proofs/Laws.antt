@@ -1,0 +1,141 @@
+-- One turn and the end of each loop that tests or counts what stands in a list.
+use mathlib.Core.Path.{_≡_, refl, _∙_}
+use mathlib.Core.List.{List, [], _∷_}
+use mathlib.Core.Bool.{Bool, true, false, not}
+use mathlib.Core.Logic.{inl, inr}
+use Prim.Native.Nat.{ℕ, zero, suc, _+_, _-_, _%_, _≤_, _<_}
+use native.Mathlib.Omega.{arith}
+use native.Mathlib.Numerals.{add-one}
+use native.Mathlib.Decide.{ℕ-discrete}
+use borrow.Author.Tests.{lt-ltb, le-ltb, le-leb, lt-leb, eq-eqb, ne-eqb}
+use lib.Dec.{ltb, leb, eqb}
+use lib.ListN.{length, getD, set, drop, length-take, length-drop}
+use lib.Seq.{set-out}
+use Rattle.lists.specs.Test.{_and_, _or_, allb}
+use Rattle.lists.specs.TestLaws.{which, false-and, true-and, true-all, or-l, or-r}
+use Rattle.lists.specs.Order.{ascb, tiesb, inside}
+use Rattle.task_lists.specs.TaskList.{places, noId, items, restEmpty, counted}
+use Rattle.task_lists.specs.declared.TaskList.{TaskList}
+use Rattle.task_lists.specs.ItemLaws.{items-step, items-end, items-pair}
+
+-- one or none is in order
+ascb-short : (f : ℕ → ℕ) (l : List ℕ) → length l ≤ 1 → ascb f l ≡ true
+unfolding ascb
+ascb-short f [] h = refl
+ascb-short f (x ∷ []) h = refl
+ascb-short f (x ∷ y ∷ l) h = absurd (omega arith)
+
+tiesb-short : (f : ℕ → ℕ) (l : List ℕ) → length l ≤ 1 → tiesb f l ≡ true
+unfolding tiesb
+tiesb-short f [] h = refl
+tiesb-short f (x ∷ []) h = refl
+tiesb-short f (x ∷ y ∷ l) h = absurd (omega arith)
+
+-- one that fails
+all-false : (n : ℕ) (p : ℕ → Bool) (i : ℕ) → i < n → p i ≡ false → allb n p ≡ false
+unfolding allb _and_
+all-false zero p i h e = absurd (omega arith)
+all-false (suc n) p i h e = elim (ℕ-discrete i n) [
+  | yes q ↦ false-and _ _ (rw q at e)
+  | no q ↦ (let g : allb n p ≡ false = all-false n p i (omega arith) e in elim (which (p n)) [
+    | inl t ↦ rw (t, g) refl
+    | inr t ↦ false-and _ _ t
+  ])
+]
+
+-- a conjunction whose first part holds is its second
+true-and-r : (a b : Bool) → a ≡ true → a and b ≡ b
+unfolding _and_
+true-and-r a b e = rw e
+
+-- nothing stands in the unused places below n
+abbrev pub restUpTo : TaskList → ℕ → Bool
+restUpTo q n = allb n (λ i. ltb i (q .n) or eqb (getD (q .ids) i 0) noId)
+
+module _ (q : TaskList) where
+  -- the counts raised
+  pub counted-step : (c : List ℕ) (i : ℕ) → i < length (items q)
+      → counted c (drop i (items q)) ≡ counted (set c (getD (q .ids) i 0) ((getD c (getD (q .ids) i 0) 0 + 1) % 256)) (drop (i + 1) (items q))
+  unfolding counted
+  counted-step c i h = rw (items-step q i h)
+
+  -- an id that has no count
+  pub counted-skip : (c : List ℕ) (i : ℕ) → i < length (items q) → length c ≤ getD (q .ids) i 0
+      → counted c (drop i (items q)) ≡ counted c (drop (i + 1) (items q))
+  counted-skip c i h k = counted-step c i h ∙ rw (set-out c (getD (q .ids) i 0) ((getD c (getD (q .ids) i 0) 0 + 1) % 256) k)
+
+  pub counted-end : (c : List ℕ) (i : ℕ) → length (items q) ≤ i → counted c (drop i (items q)) ≡ c
+  unfolding counted
+  counted-end c i h = rw (items-end q i h)
+
+  -- the keys of neighbours in order
+  ascb-step : (f : ℕ → ℕ) (i : ℕ) → 0 < i → i < length (items q)
+      → ascb f (drop (i - 1) (items q)) ≡ leb (f (getD (q .ids) (i - 1) 0)) (f (getD (q .ids) i 0)) and ascb f (drop (i + 1 - 1) (items q))
+  unfolding ascb
+  ascb-step f i p h = let e : i + 1 - 1 ≡ i = omega arith in rw (e, items-pair q i p h, items-step q i h)
+
+  pub ascb-on : (f : ℕ → ℕ) (i : ℕ) → 0 < i → i < length (items q) → f (getD (q .ids) (i - 1) 0) ≤ f (getD (q .ids) i 0)
+      → ascb f (drop (i - 1) (items q)) ≡ ascb f (drop (i + 1 - 1) (items q))
+  unfolding _and_
+  ascb-on f i p h k = rw (ascb-step f i p h, le-leb _ _ k)
+
+  pub ascb-fail : (f : ℕ → ℕ) (i : ℕ) → 0 < i → i < length (items q) → f (getD (q .ids) i 0) < f (getD (q .ids) (i - 1) 0)
+      → ascb f (drop (i - 1) (items q)) ≡ false
+  unfolding _and_
+  ascb-fail f i p h k = rw (ascb-step f i p h, lt-leb _ _ k)
+
+  pub ascb-end : (f : ℕ → ℕ) (i : ℕ) → length (items q) ≤ i → ascb f (drop (i - 1) (items q)) ≡ true
+  ascb-end f i h = ascb-short f _ (omega (arith, length-drop (i - 1) (items q)))
+
+  -- neighbours of equal keys by id
+  tiesb-step : (f : ℕ → ℕ) (i : ℕ) → 0 < i → i < length (items q)
+      → tiesb f (drop (i - 1) (items q))
+      ≡ (not (eqb (f (getD (q .ids) (i - 1) 0)) (f (getD (q .ids) i 0))) or ltb (getD (q .ids) (i - 1) 0) (getD (q .ids) i 0)) and tiesb f (drop (i + 1 - 1) (items q))
+  unfolding tiesb
+  tiesb-step f i p h = let e : i + 1 - 1 ≡ i = omega arith in rw (e, items-pair q i p h, items-step q i h)
+
+  pub tiesb-apart : (f : ℕ → ℕ) (i : ℕ) → 0 < i → i < length (items q) → (f (getD (q .ids) (i - 1) 0) ≡ f (getD (q .ids) i 0) → ⊥)
+      → tiesb f (drop (i - 1) (items q)) ≡ tiesb f (drop (i + 1 - 1) (items q))
+  unfolding _and_ _or_
+  tiesb-apart f i p h k = rw (tiesb-step f i p h, ne-eqb _ _ k)
+
+  pub tiesb-on : (f : ℕ → ℕ) (i : ℕ) → 0 < i → i < length (items q) → getD (q .ids) (i - 1) 0 < getD (q .ids) i 0
+      → tiesb f (drop (i - 1) (items q)) ≡ tiesb f (drop (i + 1 - 1) (items q))
+  tiesb-on f i p h k = tiesb-step f i p h ∙ true-and-r _ _ (or-r _ _ (lt-ltb _ _ k))
+
+  pub tiesb-fail : (f : ℕ → ℕ) (i : ℕ) → 0 < i → i < length (items q) → f (getD (q .ids) (i - 1) 0) ≡ f (getD (q .ids) i 0)
+      → getD (q .ids) i 0 ≤ getD (q .ids) (i - 1) 0 → tiesb f (drop (i - 1) (items q)) ≡ false
+  unfolding _and_ _or_
+  tiesb-fail f i p h k m = rw (tiesb-step f i p h, eq-eqb _ _ k, le-ltb _ _ m)
+
+  pub tiesb-end : (f : ℕ → ℕ) (i : ℕ) → length (items q) ≤ i → tiesb f (drop (i - 1) (items q)) ≡ true
+  tiesb-end f i h = tiesb-short f _ (omega (arith, length-drop (i - 1) (items q)))
+
+  -- every id below n
+  inside-step : (n i : ℕ) → i < length (items q) → inside n (drop i (items q)) ≡ ltb (getD (q .ids) i 0) n and inside n (drop (i + 1) (items q))
+  unfolding inside
+  inside-step n i h = rw (items-step q i h)
+
+  pub inside-on : (n i : ℕ) → i < length (items q) → getD (q .ids) i 0 < n → inside n (drop i (items q)) ≡ inside n (drop (i + 1) (items q))
+  unfolding _and_
+  inside-on n i h k = rw (inside-step n i h, lt-ltb _ _ k)
+
+  pub inside-fail : (n i : ℕ) → i < length (items q) → n ≤ getD (q .ids) i 0 → inside n (drop i (items q)) ≡ false
+  unfolding _and_
+  inside-fail n i h k = rw (inside-step n i h, le-ltb _ _ k)
+
+  pub inside-end : (n i : ℕ) → length (items q) ≤ i → inside n (drop i (items q)) ≡ true
+  unfolding inside
+  inside-end n i h = rw (items-end q i h)
+
+  -- the unused places from the length on
+  pub rest-start : restUpTo q (length (items q)) ≡ true
+  rest-start = true-all (length (items q)) _ (λ i h. or-l _ _ (lt-ltb i (q .n) (omega (arith, length-take (q .n) (q .ids)))))
+
+  pub rest-step : (i : ℕ) → getD (q .ids) i 0 ≡ noId → restUpTo q i ≡ true → restUpTo q (i + 1) ≡ true
+  unfolding allb
+  rest-step i e h = rw add-one (true-and _ _ (or-r _ _ (eq-eqb _ _ e)) h)
+
+  pub rest-fail : (i : ℕ) → length (q .ids) ≡ places → length (items q) ≤ i → i < places → (getD (q .ids) i 0 ≡ noId → ⊥) → restEmpty q ≡ false
+  unfolding _or_
+  rest-fail i g h k e = all-false places _ i k (rw (le-ltb i (q .n) (omega (arith, length-take (q .n) (q .ids))), ne-eqb _ _ e))

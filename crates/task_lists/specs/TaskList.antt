@@ -1,0 +1,84 @@
+-- Lists of task ids in a table of places: what each function of this crate answers.
+use mathlib.Core.List.{List, [], _∷_, _++_}
+use mathlib.Core.Bool.{Bool, cond}
+use mathlib.Core.Option.{Option, none, some}
+use Prim.Native.Nat.{ℕ, zero, suc, _+_, _-_, _%_}
+use lib.Dec.{ltb, leb, eqb}
+use lib.ListN.{length, getD, set, take, drop}
+use Rattle.lists.specs.Test.{_and_, _or_, allb}
+use Rattle.lists.specs.Order.{keep, firstFrom}
+use Rattle.lists.specs.Table.{pad}
+use Rattle.rules.specs.Sizes.{maxTasks, levels}
+use Rattle.task_lists.specs.declared.TaskList.{TaskList}
+
+-- how many places a list has: one for each task that there can be
+abbrev pub places : ℕ
+places = maxTasks
+
+-- what stands in an unused place, and stands for no task
+abbrev pub noId : ℕ
+noId = 255
+
+-- who stands in the list, in order
+abbrev pub items : TaskList → List ℕ
+items q = take (q .n) (q .ids)
+
+-- the list in which l stands, its unused places empty
+unfoldable pub taskListOf : List ℕ → TaskList
+taskListOf l = record { ids = pad places noId l; n = length l }
+
+-- nothing stands in the unused places
+abbrev pub restEmpty : TaskList → Bool
+restEmpty q = allb places (λ i. ltb i (q .n) or eqb (getD (q .ids) i 0) noId)
+
+-- a task's number in a table, with 0 for a task that has no place there
+abbrev pub keyOf : List ℕ → ℕ → ℕ
+keyOf keys y = getD keys y 0
+
+-- x behind all others; a full list stays
+unfoldable pub pushed : TaskList → ℕ → TaskList
+pushed q x = cond (ltb (q .n) places) (record { ids = set (q .ids) (q .n) x; n = q .n + 1 }) q
+
+-- the place of the first whose key is at least t, or behind all
+unfoldable pub placeOf : List ℕ → ℕ → List ℕ → ℕ
+placeOf keys t [] = 0
+placeOf keys t (y ∷ l) = cond (leb t (keyOf keys y)) 0 (suc (placeOf keys t l))
+
+-- x at place p, and what stood there and behind it one place on; a full list stays
+unfoldable pub insertedAt : TaskList → ℕ → ℕ → TaskList
+insertedAt q p x = cond (ltb (q .n) places) (record { ids = (take p (q .ids) ++ (x ∷ take (q .n - p) (drop p (q .ids)))) ++ drop (q .n + 1) (q .ids); n = q .n + 1 }) q
+
+-- x before the first whose key is at least t
+unfoldable pub inserted : TaskList → List ℕ → ℕ → ℕ → TaskList
+inserted q keys t x = insertedAt q (placeOf keys t (items q)) x
+
+-- who has a number that is v in the table of flags, the others gone
+unfoldable pub kept : TaskList → List ℕ → ℕ → TaskList
+kept q flags v = taskListOf (keep (λ y. eqb (keyOf flags y) v) (items q))
+
+-- one task of `insertedFlagged`
+abbrev pub insertedIf : TaskList → List ℕ → List ℕ → ℕ → TaskList
+insertedIf q keys flags i = cond (eqb (keyOf flags i) 1) (inserted q keys (keyOf keys i + 1) i) q
+
+-- each of the first n tasks that has a 1 in the table of flags, by id, at the tail of its key
+unfoldable pub insertedFlagged : TaskList → List ℕ → List ℕ → ℕ → TaskList
+insertedFlagged q keys flags zero = q
+insertedFlagged q keys flags (suc i) = insertedIf (insertedFlagged q keys flags i) keys flags i
+
+-- the counts c, each task's raised by how often it stands in l (numbers of eight bits wrap)
+unfoldable pub counted : List ℕ → List ℕ → List ℕ
+counted c [] = c
+counted c (y ∷ l) = counted (set c y ((keyOf c y + 1) % 256)) l
+
+-- the id of a task, or that of none
+unfoldable pub idOf : Option ℕ → ℕ
+idOf none = noId
+idOf (some i) = i
+
+-- who waits for an object: the kind of wait and the object's number are in two tables
+abbrev pub waitsFor : List ℕ → List ℕ → ℕ → ℕ → ℕ → Bool
+waitsFor kinds objects kind object i = eqb (keyOf kinds i) kind and eqb (keyOf objects i) object
+
+-- the best waiter: the first found going through the levels and, in a level, in the order of the list
+unfoldable pub bestOf : TaskList → List ℕ → List ℕ → List ℕ → ℕ → ℕ → ℕ
+bestOf q kinds objects keys kind object = idOf (firstFrom (keyOf keys) levels 0 (keep (waitsFor kinds objects kind object) (items q)))
