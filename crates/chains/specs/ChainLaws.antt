@@ -118,6 +118,11 @@ module _ {next : ℕ → Option ℕ} where
   true-ends (link c) zero h = absurd (omega arith)
   true-ends (link c) (suc f) h = true-ends c f (omega arith)
 
+pub walk-none : (next : ℕ → Option ℕ) (f : ℕ) → walk f next none ≡ []
+unfolding walk
+walk-none next zero = refl
+walk-none next (suc f) = refl
+
 -- the fuel n cuts no chain of a map among the numbers below n
 module _ {n : ℕ} {next : ℕ → Option ℕ} (s : Ended n next) where
   pub walk-is-chain : (o : Option ℕ) → ((j : ℕ) → o ≡ some j → j < n) → Chain next o (walk n next o)

@@ -2,7 +2,6 @@
 use crate::edges;
 use crate::records;
 use crate::show;
-use task_lists::TaskList;
 use record::MUTEXES;
 use record::Mutexes;
 use record::Request;
@@ -11,6 +10,7 @@ use record::Semaphores;
 use record::State;
 use record::TASKS;
 use record::Tasks;
+use task_lists::TaskList;
 
 // A tick on the record: the label, the answer, and whether the record stayed.
 fn tried(label: &[u8], s: State) {

@@ -1,5 +1,4 @@
 // Are two records the same in every field?
-use task_lists::TaskList;
 use record::MAX_TASKS;
 use record::MUTEXES;
 use record::Mutexes;
@@ -8,6 +7,7 @@ use record::Semaphores;
 use record::State;
 use record::TASKS;
 use record::Tasks;
+use task_lists::TaskList;
 
 fn same_few(a: [u8; MUTEXES], b: [u8; MUTEXES]) -> bool {
     for i in 0..MUTEXES {

@@ -14,9 +14,8 @@ use Rattle.rules.specs.Log.{logLine, withRoom, Call, inRoom, call}
 use Rattle.rules.specs.Invariant.{Inv}
 use Rattle.rules.specs.StepLaws.{step-inv, fresh-inv}
 use Rattle.rules.specs.SoundLaws.{inv-sound}
-use Rattle.rules.specs.Demand.{events, after}
+use Rattle.rules.specs.Demand.{eventOf, events, after}
 use Rattle.rules.specs.RefusalLaws.{call-by, refused-unchanged, sound-stands}
-use Rattle.rules.specs.AgreeLaws.{eventOf}
 use Rattle.rules.specs.DemandLaws.{call-inv, demand-3}
 use Rattle.task_lists.specs.TaskList.{noId, idOf}
 use Rattle.walks.specs.Walk.{taskAt}

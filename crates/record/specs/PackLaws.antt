@@ -15,7 +15,7 @@ use Rattle.lists.specs.Table.{pad, filled}
 use Rattle.lists.specs.TestLaws.{and-l, and-r, or-true}
 use Rattle.lists.specs.TableLaws.{map-filled, pad-filled, pad-take}
 use Rattle.rules.specs.Sizes.{maxTasks, maxMutexes, maxSemaphores, wordSize}
-use Rattle.rules.specs.Tables.{Wait, Tables, tasks, mutexes, semaphores}
+use Rattle.rules.specs.Tables.{awaitedKind, awaitedBy, awaitedObject, Wait, Tables, taskCount, mutexCount, semCount}
 use Rattle.rules.specs.Levels.{levelIn}
 use Rattle.rules.specs.Step.{hold, level, outcome}
 use Rattle.rules.specs.Effect.{due}
@@ -24,9 +24,9 @@ use Rattle.task_lists.specs.TaskList.{places, noId, items, taskListOf, idOf}
 use Rattle.task_lists.specs.TaskListLaws.{list-of-items}
 use Rattle.walks.specs.Walk.{taskAt}
 use Rattle.walks.specs.WalkLaws.{other-default, task-in}
-use Rattle.record.specs.Record.{ticksLeft, dueAt, leftIn, waitIn, waitAt, viewTables, view, awaitedKind, awaitedObject, leftCode, kindCode, objectCode, timedCode, dueCode, packTasks, packMutexes, packSemaphores, pack}
+use Rattle.record.specs.Record.{ticksLeft, dueAt, leftIn, waitWith, waitIn, waitAt, viewTables, view, leftCode, kindCode, objectCode, timedCode, dueCode, packTasks, packMutexes, packSemaphores, pack}
 use Rattle.record.specs.SoundRecord.{usedTaskb, unusedTaskb, idb, mutexPlaceb, semPlaceb, taskListTidyb, tidyb, levelsb}
-use Rattle.record.specs.Setters.{withTasks, withLevel}
+use Rattle.record.specs.Setters.{putTasks, putLevel}
 use Rattle.record.specs.GoodRecord.{Typed}
 use Rattle.record.specs.TidyLaws.{tasks-fit, mutexes-fit, semaphores-fit, mutex-place, sem-place, used-task, unused-task}
 use Rattle.record.specs.ViewLaws.{stored-level, view-tasks}
@@ -39,11 +39,11 @@ use Rattle.rules.specs.State.{State as Model, levelOf}  -- keep
 
 -- the table of levels
 unfoldable pub levelColumn : Tables → List ℕ
-levelColumn t = pad maxTasks 0 (filled (tasks t) (levelIn t))
+levelColumn t = pad maxTasks 0 (filled (taskCount t) (levelIn t))
 
 -- the packing of a state, but with these levels
 unfoldable pub packWith : List ℕ → Model → State
-packWith lv s = withTasks (pack s) (withLevel ((pack s) .tasks) lv)
+packWith lv s = putTasks (pack s) (putLevel ((pack s) .tasks) lv)
 
 -- these are the places of a wait
 abbrev Codes : ℕ → Option Wait → ℕ → ℕ → ℕ → ℕ → Type 0
@@ -68,7 +68,7 @@ module _ (clock : ℕ) (word : clock < wordSize) where
   wait-codes : (kind object timed due : ℕ) → due < wordSize → kind ≤ 3 → (object ≡ 0) ⊎ ((kind ≡ 1) ⊎ (kind ≡ 2)) → timed ≤ 1
       → (timed ≡ 0) ⊎ (kind ≡ 0 → ⊥) → (due ≡ 0) ⊎ (timed ≡ 1)
       → Codes clock (waitIn kind object (leftIn timed due clock)) kind object timed due
-  unfolding waitIn kindCode objectCode timedCode dueCode awaitedKind awaitedObject
+  unfolding waitWith awaitedBy kindCode objectCode timedCode dueCode awaitedKind awaitedObject
   wait-codes zero object timed due h k o l t c = (
     refl,
     sym (elim o [ inl e ↦ e | inr e ↦ elim e [ inl f ↦ absurd (omega arith) | inr f ↦ absurd (omega arith) ] ]),
@@ -176,8 +176,8 @@ module _ (k : State) (T : Typed k) (tidy : tidyb k ≡ true) where
       → pad maxTasks 0 (map f (filled (k .tasks .n) (waitAt (k .tasks) (k .clock)))) ≡ a
   code-column f a e u v = rw (map-filled f (k .tasks .n) (waitAt (k .tasks) (k .clock))) (pad-filled maxTasks 0 (k .tasks .n) (λ i. f (waitAt (k .tasks) (k .clock) i)) a (tasks-fit k tidy) e u v)
 
-  good-levels : levelsb k ≡ true → pad maxTasks 0 (filled (tasks (viewTables k)) (levelIn (viewTables k))) ≡ k .tasks .level
-  good-levels lv = pad-filled maxTasks 0 (tasks (viewTables k)) (levelIn (viewTables k)) (k .tasks .level) (omega (arith, tasks-fit k tidy, view-tasks k T tidy)) (T .level-length)
+  good-levels : levelsb k ≡ true → pad maxTasks 0 (filled (taskCount (viewTables k)) (levelIn (viewTables k))) ≡ k .tasks .level
+  good-levels lv = pad-filled maxTasks 0 (taskCount (viewTables k)) (levelIn (viewTables k)) (k .tasks .level) (omega (arith, tasks-fit k tidy, view-tasks k T tidy)) (T .level-length)
       (λ i h. sym (stored-level k lv i (omega (arith, view-tasks k T tidy)))) (λ i h l. unused-at i (omega (arith, view-tasks k T tidy)) l .no-level)
 
   good-tasks : levelsb k ≡ true → packTasks (viewTables k) (k .clock) ≡ k .tasks

@@ -8,70 +8,70 @@ use Prim.Native.Nat.{ℕ, _≤_, min}
 use native.Mathlib.Omega.{arith}
 use native.Mathlib.Decide.{decLt}
 use lib.Dec.{eqb}
-use lib.ListN.{length, List·getD-eq-default, List·getD-map}
+use lib.ListN.{length, getD, List·getD-eq-default, List·getD-map}
 use lib.Seq.{ext-getD}
 use Rattle.lists.specs.Table.{filled}
-use Rattle.lists.specs.TestLaws.{which}
+use Rattle.lists.specs.TestLaws.{which, by-test}
 use Rattle.lists.specs.TableLaws.{length-filled, getD-filled, length-pad, getD-pad}
 use Rattle.chains.specs.Least.{leadsTo, leastLeading}
 use Rattle.chains.specs.LeastLaws.{least-start}
-use Rattle.rules.specs.Sizes.{maxTasks, maxMutexes, maxSemaphores, inheriting}
-use Rattle.rules.specs.Tables.{outcomeOf, countOf, maximumOf}
-use Rattle.rules.specs.Levels.{mutexIn, mutexAwaited, andThen, next, heirOf, lends, levelIn}
+use Rattle.rules.specs.Sizes.{maxTasks, maxMutexes, maxSemaphores, inheriting, onMutex}
+use Rattle.rules.specs.Tables.{awaitedKind, awaitedObject, outcomeOf, countOf, maximumOf}
+use Rattle.rules.specs.Levels.{ownerAwaited, heirAwaited, ofWait, next, lends, levelIn}
 use Rattle.rules.specs.Invariant.{Facts}
-use Rattle.rules.specs.LevelLaws.{wait-out, next-none, lends-ended}
+use Rattle.rules.specs.LevelLaws.{wait-out, lends-ended}
 use Rattle.task_lists.specs.TaskList.{noId, keyOf, idOf}
 use Rattle.walks.specs.Walk.{taskAt, nextIn, raised}
 use Rattle.walks.specs.WalkLaws.{next-in, next-out, length-raised, raised-ext, raised-out}
-use Rattle.record.specs.Record.{onMutex, awaitedKind, awaitedObject, kindCode, objectCode, timedCode, dueCode, packTasks, packMutexes, packSemaphores, pack}
-use Rattle.record.specs.Setters.{withLevel}
-use Rattle.record.specs.Reads.{ownerAt, kindAt, nextAt, lendsAt, newLevels, countAt, maximumAt}
+use Rattle.record.specs.Record.{kindCode, objectCode, timedCode, dueCode, packTasks, packMutexes, packSemaphores, pack}
+use Rattle.record.specs.Setters.{putLevel}
+use Rattle.record.specs.Reads.{ownerAt, kindAt, ledBy, leadsAt, nextAt, heirAt, lendsAt, newLevels, countAt, maximumAt}
 use Rattle.record.specs.PackLaws.{levelColumn, packWith, task-back}
 use Rattle.rules.specs.State.{State as Model}  -- keep
-use Rattle.rules.specs.Tables.{Tables, Wait, Awaited, mutexOf, semOf, time, tasks, priorityOf, waitOf, ownerOf, kindOf}  -- keep
+use Rattle.rules.specs.Tables.{Tables, Wait, Awaited, mutexOf, semOf, time, taskCount, priorityOf, waitOf, ownerOf, kindOf}  -- keep
 
 -- behind the last task every level is 0
-pub level-out : (t : Tables) (i : ℕ) → tasks t ≤ i → levelIn t i ≡ 0
+pub level-out : (t : Tables) (i : ℕ) → taskCount t ≤ i → levelIn t i ≡ 0
 unfolding levelIn leastLeading
-level-out t i h = omega (arith, least-start (λ j. leadsTo (tasks t) (lends t) j i) (priorityOf t) (priorityOf t i) (tasks t), List·getD-eq-default (t .priorities) 0 h)
+level-out t i h = omega (arith, least-start (λ j. leadsTo (taskCount t) (lends t) j i) (priorityOf t) (priorityOf t i) (taskCount t), List·getD-eq-default (t .tasks .priorities) 0 h)
 
 -- the table of levels reads as the levels, at every place
 pub key-level : (t : Tables) (i : ℕ) → keyOf (levelColumn t) i ≡ levelIn t i
 unfolding levelColumn
-key-level t i = getD-pad maxTasks 0 (filled (tasks t) (levelIn t)) i ∙ elim (decLt i (tasks t)) [
-  | yes h ↦ getD-filled (tasks t) (levelIn t) 0 i h
-  | no h ↦ (let b : length (filled (tasks t) (levelIn t)) ≤ i = omega (arith, length-filled (tasks t) (levelIn t)) in
-      List·getD-eq-default (filled (tasks t) (levelIn t)) 0 b ∙ sym (level-out t i (omega arith)))
+key-level t i = getD-pad maxTasks 0 (filled (taskCount t) (levelIn t)) i ∙ elim (decLt i (taskCount t)) [
+  | yes h ↦ getD-filled (taskCount t) (levelIn t) 0 i h
+  | no h ↦ (let b : length (filled (taskCount t) (levelIn t)) ≤ i = omega (arith, length-filled (taskCount t) (levelIn t)) in
+      List·getD-eq-default (filled (taskCount t) (levelIn t)) 0 b ∙ sym (level-out t i (omega arith)))
 ]
 
 pub key-levels : (t : Tables) → keyOf (levelColumn t) ≡ levelIn t
 key-levels t = fun-ext (key-level t)
 
-pub length-levels : (t : Tables) → tasks t ≤ maxTasks → length (levelColumn t) ≡ maxTasks
+pub length-levels : (t : Tables) → taskCount t ≤ maxTasks → length (levelColumn t) ≡ maxTasks
 unfolding levelColumn
-length-levels t h = length-pad maxTasks 0 (filled (tasks t) (levelIn t)) (omega (arith, length-filled (tasks t) (levelIn t)))
+length-levels t h = length-pad maxTasks 0 (filled (taskCount t) (levelIn t)) (omega (arith, length-filled (taskCount t) (levelIn t)))
 
 -- the packed columns, read at every place
 module _ (t : Tables) (clock : ℕ) (i : ℕ) where
   pub kind-read : keyOf ((packTasks t clock) .wait) i ≡ kindCode (waitOf t i)
   unfolding packTasks kindCode
-  kind-read = getD-pad maxTasks 0 (map kindCode (t .waits)) i ∙ List·getD-map kindCode (t .waits) i none
+  kind-read = getD-pad maxTasks 0 (map kindCode (t .tasks .waits)) i ∙ List·getD-map kindCode (t .tasks .waits) i none
 
   pub object-read : keyOf ((packTasks t clock) .object) i ≡ objectCode (waitOf t i)
   unfolding packTasks objectCode
-  object-read = getD-pad maxTasks 0 (map objectCode (t .waits)) i ∙ List·getD-map objectCode (t .waits) i none
+  object-read = getD-pad maxTasks 0 (map objectCode (t .tasks .waits)) i ∙ List·getD-map objectCode (t .tasks .waits) i none
 
   pub timed-read : keyOf ((packTasks t clock) .timed) i ≡ timedCode (waitOf t i)
   unfolding packTasks timedCode
-  timed-read = getD-pad maxTasks 0 (map timedCode (t .waits)) i ∙ List·getD-map timedCode (t .waits) i none
+  timed-read = getD-pad maxTasks 0 (map timedCode (t .tasks .waits)) i ∙ List·getD-map timedCode (t .tasks .waits) i none
 
   pub due-read : keyOf ((packTasks t clock) .due) i ≡ dueCode clock (waitOf t i)
   unfolding packTasks dueCode
-  due-read = getD-pad maxTasks 0 (map (dueCode clock) (t .waits)) i ∙ List·getD-map (dueCode clock) (t .waits) i none
+  due-read = getD-pad maxTasks 0 (map (dueCode clock) (t .tasks .waits)) i ∙ List·getD-map (dueCode clock) (t .tasks .waits) i none
 
   pub priority-read : keyOf ((packTasks t clock) .priority) i ≡ priorityOf t i
   unfolding packTasks
-  priority-read = getD-pad maxTasks 0 (t .priorities) i
+  priority-read = getD-pad maxTasks 0 (t .tasks .priorities) i
 
   pub level-read : keyOf ((packTasks t clock) .level) i ≡ levelIn t i
   unfolding packTasks levelColumn
@@ -79,24 +79,24 @@ module _ (t : Tables) (clock : ℕ) (i : ℕ) where
 
   pub outcome-read : keyOf ((packTasks t clock) .outcome) i ≡ outcomeOf t i
   unfolding packTasks
-  outcome-read = getD-pad maxTasks 0 (t .outcomes) i
+  outcome-read = getD-pad maxTasks 0 (t .tasks .outcomes) i
 
 module _ (t : Tables) (m : ℕ) where
   pub owner-read : ownerAt (packMutexes t) m ≡ idOf (ownerOf t m)
   unfolding packMutexes idOf
-  owner-read = getD-pad maxMutexes noId (map idOf (t .owners)) m ∙ List·getD-map idOf (t .owners) m none
+  owner-read = getD-pad maxMutexes noId (map idOf (t .mutexes .owners)) m ∙ List·getD-map idOf (t .mutexes .owners) m none
 
   pub mutex-read : kindAt (packMutexes t) m ≡ kindOf t m
   unfolding packMutexes
-  mutex-read = getD-pad maxMutexes 0 (t .kinds) m
+  mutex-read = getD-pad maxMutexes 0 (t .mutexes .kinds) m
 
   pub count-read : countAt (packSemaphores t) m ≡ countOf t m
   unfolding packSemaphores
-  count-read = getD-pad maxSemaphores 0 (t .counts) m
+  count-read = getD-pad maxSemaphores 0 (t .semaphores .counts) m
 
   pub maximum-read : maximumAt (packSemaphores t) m ≡ maximumOf t m
   unfolding packSemaphores
-  maximum-read = getD-pad maxSemaphores 0 (t .maxima) m
+  maximum-read = getD-pad maxSemaphores 0 (t .semaphores .maxima) m
 
 -- an owner stands for itself
 module _ (t : Tables) (F : Facts t) (m : ℕ) where
@@ -105,26 +105,27 @@ module _ (t : Tables) (F : Facts t) (m : ℕ) where
 
 -- who leads to whom, by the packed tables
 module _ (t : Tables) (F : Facts t) where
-  next-code : (w : Option Wait) → taskAt (cond (eqb (kindCode w) onMutex) (idOf (ownerOf t (objectCode w))) noId) ≡ andThen (mutexAwaited w) (ownerOf t)
-  unfolding kindCode objectCode awaitedKind awaitedObject andThen mutexAwaited mutexIn
-  next-code none = refl
-  next-code (some w) = go (w .on)
+  -- by a table that tells whom a wait for each mutex leads to
+  led-code : (l : List ℕ) (f : Awaited → Option ℕ) → ((j : ℕ) → taskAt (getD l j noId) ≡ f (mutexOf j)) → ((j : ℕ) → f (semOf j) ≡ none) → f time ≡ none
+      → (w : Option Wait) → taskAt (ledBy l (kindCode w) (objectCode w)) ≡ ofWait f w
+  unfolding kindCode objectCode awaitedKind awaitedObject ofWait ledBy
+  led-code l f told no-sem no-time none = refl
+  led-code l f told no-sem no-time (some w) = go (w .on)
     where
-      go : (a : Awaited) → taskAt (cond (eqb (awaitedKind a) onMutex) (idOf (ownerOf t (awaitedObject a))) noId) ≡ andThen (mutexIn a) (ownerOf t)
-      go (mutexOf m) = owner-back t F m
-      go (semOf k) = refl
-      go time = refl
+      go : (a : Awaited) → taskAt (ledBy l (awaitedKind a) (awaitedObject a)) ≡ f a
+      go (mutexOf m) = told m
+      go (semOf k) = sym (no-sem k)
+      go time = sym no-time
 
-  lends-code : (w : Option Wait)
-      → taskAt (cond (eqb (kindCode w) onMutex) (cond (eqb (kindOf t (objectCode w)) inheriting) (idOf (ownerOf t (objectCode w))) noId) noId) ≡ andThen (mutexAwaited w) (heirOf t)
-  unfolding kindCode objectCode awaitedKind awaitedObject andThen mutexAwaited mutexIn
-  lends-code none = refl
-  lends-code (some w) = go (w .on)
-    where
-      go : (a : Awaited) → taskAt (cond (eqb (awaitedKind a) onMutex) (cond (eqb (kindOf t (awaitedObject a)) inheriting) (idOf (ownerOf t (awaitedObject a))) noId) noId) ≡ andThen (mutexIn a) (heirOf t)
-      go (mutexOf m) = elim (which (eqb (kindOf t m) inheriting)) [ inl e ↦ rw e (owner-back t F m) | inr e ↦ rw e refl ]
-      go (semOf k) = refl
-      go time = refl
+  -- the owner of an inheriting mutex
+  heir-code : (j : ℕ) → taskAt (getD (filled maxMutexes (heirAt (packMutexes t))) j noId) ≡ heirAwaited t (mutexOf j)
+  unfolding heirAwaited
+  heir-code j = elim (decLt j maxMutexes) [
+    | yes h ↦ ap taskAt (getD-filled maxMutexes (heirAt (packMutexes t)) noId j h)
+        ∙ rw (owner-read t j, mutex-read t j) (elim (which (eqb (kindOf t j) inheriting)) [ inl e ↦ rw e (owner-back t F j) | inr e ↦ rw e refl ])
+    | no h ↦ ap taskAt (List·getD-eq-default (filled maxMutexes (heirAt (packMutexes t))) noId (omega (arith, length-filled maxMutexes (heirAt (packMutexes t)))))
+        ∙ sym (rw (List·getD-eq-default (t .mutexes .owners) none {n = j} (omega (arith, F .few-mutexes))) (by-test (λ (o : Option ℕ). o ≡ none) (eqb (kindOf t j) inheriting) (λ e. refl) (λ e. refl)))
+  ]
 
   -- a table of what f gives, as a map
   filled-next : (f : ℕ → ℕ) (g : ℕ → Option ℕ) → ((i : ℕ) → taskAt (f i) ≡ g i) → ((i : ℕ) → maxTasks ≤ i → g i ≡ none) → (i : ℕ) → nextIn (filled maxTasks f) i ≡ g i
@@ -133,20 +134,24 @@ module _ (t : Tables) (F : Facts t) where
     | no h ↦ next-out (filled maxTasks f) i (omega arith) ∙ sym (o i (omega arith))
   ]
 
-  pub next-table : (clock : ℕ) (lv : List ℕ) (i : ℕ) → nextIn (filled maxTasks (nextAt (withLevel (packTasks t clock) lv) (packMutexes t))) i ≡ next t i
-  unfolding nextAt next
-  next-table clock lv = filled-next _ _
-      (λ i. rw (kind-read t clock i, object-read t clock i, owner-read t (objectCode (waitOf t i))) (next-code (waitOf t i)))
-      (λ i h. next-none t i (wait-out t (F .wait-column) i (omega (arith, F .few-tasks))))
-
-  pub lends-table : (clock : ℕ) (lv : List ℕ) (i : ℕ) → nextIn (filled maxTasks (lendsAt (withLevel (packTasks t clock) lv) (packMutexes t))) i ≡ lends t i
-  unfolding lendsAt lends andThen mutexAwaited
-  lends-table clock lv = filled-next _ _
-      (λ i. rw (kind-read t clock i, object-read t clock i, owner-read t (objectCode (waitOf t i)), mutex-read t (objectCode (waitOf t i))) (lends-code (waitOf t i)))
+  -- the table of whom each task leads to, as a map
+  led-table : (l : List ℕ) (f : Awaited → Option ℕ) → ((j : ℕ) → taskAt (getD l j noId) ≡ f (mutexOf j)) → ((j : ℕ) → f (semOf j) ≡ none) → f time ≡ none
+      → (clock : ℕ) (lv : List ℕ) (i : ℕ) → nextIn (filled maxTasks (leadsAt (putLevel (packTasks t clock) lv) l)) i ≡ ofWait f (waitOf t i)
+  unfolding ofWait
+  led-table l f told no-sem no-time clock lv = filled-next _ (λ i. ofWait f (waitOf t i))
+      (λ i. rw (kind-read t clock i, object-read t clock i) (led-code l f told no-sem no-time (waitOf t i)))
       (λ i h. rw (wait-out t (F .wait-column) i (omega (arith, F .few-tasks))) refl)
 
+  pub next-table : (clock : ℕ) (lv : List ℕ) (i : ℕ) → nextIn (filled maxTasks (nextAt (putLevel (packTasks t clock) lv) (packMutexes t))) i ≡ next t i
+  unfolding next ownerAwaited
+  next-table = led-table ((packMutexes t) .owner) (ownerAwaited t) (λ j. ap taskAt (owner-read t j) ∙ owner-back t F j) (λ j. refl) refl
+
+  pub lends-table : (clock : ℕ) (lv : List ℕ) (i : ℕ) → nextIn (filled maxTasks (lendsAt (putLevel (packTasks t clock) lv) (packMutexes t))) i ≡ lends t i
+  unfolding lends heirAwaited
+  lends-table = led-table (filled maxMutexes (heirAt (packMutexes t))) (heirAwaited t) heir-code (λ j. refl) refl
+
   -- the levels that the code makes are the levels
-  levels-table : (clock : ℕ) (lv : List ℕ) → newLevels (withLevel (packTasks t clock) lv) (packMutexes t) ≡ levelColumn t
+  levels-table : (clock : ℕ) (lv : List ℕ) → newLevels (putLevel (packTasks t clock) lv) (packMutexes t) ≡ levelColumn t
   unfolding newLevels levelIn packTasks
   levels-table clock lv = rw fuel (ext-getD 0 made (levelColumn t) sizes (λ i h. elim (decLt i n) [
     | yes q ↦ raised-ext own links n (F .few-tasks) (lends t) (lends-table clock lv) i ∙ ap (λ f. leastLeading n (lends t) f i) (fun-ext (priority-read t clock)) ∙ sym (key-level t i)
@@ -155,13 +160,13 @@ module _ (t : Tables) (F : Facts t) where
   ]))
     where
       n : ℕ
-      n = tasks t
+      n = taskCount t
 
       own : List ℕ
       own = (packTasks t clock) .priority
 
       links : List ℕ
-      links = filled maxTasks (lendsAt (withLevel (packTasks t clock) lv) (packMutexes t))
+      links = filled maxTasks (lendsAt (putLevel (packTasks t clock) lv) (packMutexes t))
 
       made : List ℕ
       made = raised own links n n
@@ -170,10 +175,10 @@ module _ (t : Tables) (F : Facts t) where
       fuel = omega (arith, F .few-tasks)
 
       sizes : length made ≡ length (levelColumn t)
-      sizes = length-raised own links n n ∙ length-pad maxTasks 0 (t .priorities) (F .few-tasks) ∙ sym (length-levels t (F .few-tasks))
+      sizes = length-raised own links n n ∙ length-pad maxTasks 0 (t .tasks .priorities) (F .few-tasks) ∙ sym (length-levels t (F .few-tasks))
 
       out : (i : ℕ) → n ≤ i → priorityOf t i ≡ 0
-      out i h = List·getD-eq-default (t .priorities) 0 h
+      out i h = List·getD-eq-default (t .tasks .priorities) 0 h
 
 module _ (s : Model) (F : Facts (s .tables)) where
   pub next-pack : (i : ℕ) → nextIn (filled maxTasks (nextAt ((pack s) .tasks) ((pack s) .mutexes))) i ≡ next (s .tables) i

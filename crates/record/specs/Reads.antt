@@ -5,10 +5,9 @@ use Prim.Native.Nat.{ℕ, min}
 use lib.Dec.{eqb}
 use lib.ListN.{getD}
 use Rattle.lists.specs.Table.{filled}
-use Rattle.rules.specs.Sizes.{maxTasks, inheriting}
+use Rattle.rules.specs.Sizes.{maxTasks, maxMutexes, inheriting, onMutex}
 use Rattle.task_lists.specs.TaskList.{noId}
 use Rattle.walks.specs.Walk.{raised}
-use Rattle.record.specs.Record.{onMutex}
 use Rattle.record.specs.declared.Tasks.{Tasks}  -- keep
 use Rattle.record.specs.declared.Mutexes.{Mutexes}  -- keep
 use Rattle.record.specs.declared.Semaphores.{Semaphores}  -- keep
@@ -36,13 +35,24 @@ maximumAt c j = getD (c .maximum) j 0
 abbrev pub firstId : TaskList → ℕ
 firstId q = getD (q .ids) 0 0
 
--- the owner of the mutex for which i waits, mutexes of every kind
-unfoldable pub nextAt : Tasks → Mutexes → ℕ → ℕ
-nextAt t m i = cond (eqb (getD (t .wait) i 0) onMutex) (ownerAt m (getD (t .object) i 0)) noId
+-- whom a wait leads to, by its kind and object: `mutexes` says whom a wait for each mutex leads to
+unfoldable pub ledBy : List ℕ → ℕ → ℕ → ℕ
+ledBy mutexes kind object = cond (eqb kind onMutex) (getD mutexes object noId) noId
 
--- the owner of the inheriting mutex for which i waits
-unfoldable pub lendsAt : Tasks → Mutexes → ℕ → ℕ
-lendsAt t m i = cond (eqb (getD (t .wait) i 0) onMutex) (cond (eqb (kindAt m (getD (t .object) i 0)) inheriting) (ownerAt m (getD (t .object) i 0)) noId) noId
+abbrev pub leadsAt : Tasks → List ℕ → ℕ → ℕ
+leadsAt t mutexes i = ledBy mutexes (getD (t .wait) i 0) (getD (t .object) i 0)
+
+-- the owner of what i waits for
+abbrev pub nextAt : Tasks → Mutexes → ℕ → ℕ
+nextAt t m = leadsAt t (m .owner)
+
+-- who is lent the levels of those that wait for a mutex: its owner, where it is inheriting
+abbrev pub heirAt : Mutexes → ℕ → ℕ
+heirAt m j = cond (eqb (kindAt m j) inheriting) (ownerAt m j) noId
+
+-- who is lent the level of i
+abbrev pub lendsAt : Tasks → Mutexes → ℕ → ℕ
+lendsAt t m = leadsAt t (filled maxMutexes (heirAt m))
 
 -- the own priorities, raised along the chains of waits on inheriting mutexes; ViewLaws proves them the levels as defined
 unfoldable pub newLevels : Tasks → Mutexes → List ℕ

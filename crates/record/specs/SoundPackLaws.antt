@@ -17,7 +17,7 @@ use Rattle.lists.specs.TestLaws.{which, by-test, and-l, and-r, true-and, or-l, 
 use Rattle.lists.specs.CountLaws.{occ-opt, in-below, below-le, pigeonhole}
 use Rattle.lists.specs.TableLaws.{filled-is, take-pad, length-pad}
 use Rattle.chains.specs.Chain.{on}
-use Rattle.rules.specs.Sizes.{maxTasks, maxMutexes, maxSemaphores, kinds, wordSize}
+use Rattle.rules.specs.Sizes.{maxTasks, maxMutexes, maxSemaphores, kinds, wordSize, onMutex, onSemaphore, onTime}
 use Rattle.rules.specs.Levels.{levelIn}
 use Rattle.rules.specs.Step.{hold}
 use Rattle.rules.specs.Sound.{soundb}
@@ -28,21 +28,19 @@ use Rattle.task_lists.specs.TaskList.{places, noId, taskListOf, idOf}
 use Rattle.task_lists.specs.TaskListLaws.{items-taskListOf, rest-taskListOf}
 use Rattle.walks.specs.Walk.{taskAt}
 use Rattle.walks.specs.WalkLaws.{other-default}
-use Rattle.record.specs.Record.{dueAt, onMutex, onSemaphore, onTime, leftIn, waitIn, waitAt, viewTables, view, awaitedKind, awaitedObject, leftCode, kindCode, objectCode, timedCode, dueCode, packTasks, packMutexes, packSemaphores, pack}
+use Rattle.record.specs.Record.{dueAt, leftIn, waitWith, waitIn, waitAt, viewTables, view, leftCode, kindCode, objectCode, timedCode, dueCode, packTasks, packMutexes, packSemaphores, pack}
 use Rattle.record.specs.SoundRecord.{usedTaskb, unusedTaskb, taskPlaceb, tasksTidyb, idb, mutexPlaceb, mutexesTidyb, semPlaceb, semaphoresTidyb, taskListTidyb, tidyb, levelsb, soundOf}
 use Rattle.record.specs.GoodRecord.{Typed}
 use Rattle.record.specs.PackLaws.{ticks-back, task-back, good-pack}
 use Rattle.record.specs.ReadLaws.{level-out, kind-read, object-read, timed-read, due-read, priority-read, level-read, outcome-read, owner-read, mutex-read, count-read, maximum-read, level-pack}
 use Rattle.record.specs.declared.State.{State}  -- keep
 use Rattle.rules.specs.State.{State as Model, levelOf}  -- keep
-use Rattle.rules.specs.Tables.{Tables, Wait, Awaited, mutexOf, semOf, time, tasks, mutexes, semaphores, priorityOf, outcomeOf, waitOf, ownerOf, kindOf, countOf, maximumOf}  -- keep
+use Rattle.rules.specs.Tables.{Awaited, mutexOf, semOf, time, awaitedKind, awaitedObject, awaitedBy, Wait, TaskTable, MutexTable, SemTable, Tables, taskCount, mutexCount, semCount, priorityOf, outcomeOf, waitOf, ownerOf, kindOf, countOf, maximumOf}  -- keep
 
 -- a time left is below the number of words
 left-word : (a : Awaited) (o : Option ℕ) → Left a o → (n : ℕ) → o ≡ some n → n < wordSize
 left-word a none L n e = none-some refl e
-left-word (mutexOf m) (some k) L n e = omega (arith, L .1, some-same e)
-left-word (semOf m) (some k) L n e = omega (arith, L .1, some-same e)
-left-word time (some k) L n e = omega (arith, L .1, some-same e)
+left-word a (some k) L n e = omega (arith, L .1, some-same e)
 
 -- a wait is read back from its codes
 module _ (clock : ℕ) (word : clock < wordSize) where
@@ -52,7 +50,7 @@ module _ (clock : ℕ) (word : clock < wordSize) where
   left-back (some n) h = ap some (ticks-back clock word n (h n refl))
 
   wait-back : (w : Option Wait) → Timed w → waitIn (kindCode w) (objectCode w) (leftIn (timedCode w) (dueCode clock w) clock) ≡ w
-  unfolding waitIn kindCode objectCode timedCode dueCode awaitedKind awaitedObject
+  unfolding waitWith awaitedBy kindCode objectCode timedCode dueCode awaitedKind awaitedObject
   wait-back none T = refl
   wait-back (some w) T = ap (λ o. waitIn (awaitedKind (w .on)) (awaitedObject (w .on)) o) (left-back (w .left) (left-word (w .on) (w .left) T)) ∙ go (w .on) (w .left)
     where
@@ -65,9 +63,17 @@ owner-list : (l : List (Option ℕ)) → ((m o : ℕ) → getD l m none ≡ some
 owner-list [] h = refl
 owner-list (o ∷ l) h = rw (task-back o (h 0), owner-list l (λ m. h (suc m)))
 
-same-tables : (a b : Tables) → a .priorities ≡ b .priorities → a .outcomes ≡ b .outcomes → a .waits ≡ b .waits → a .waiting ≡ b .waiting
-    → a .kinds ≡ b .kinds → a .owners ≡ b .owners → a .counts ≡ b .counts → a .maxima ≡ b .maxima → a ≡ b
-same-tables a b p1 p2 p3 p4 p5 p6 p7 p8 = λ i. record { priorities = p1 i; outcomes = p2 i; waits = p3 i; waiting = p4 i; kinds = p5 i; owners = p6 i; counts = p7 i; maxima = p8 i }
+same-task-table : (a b : TaskTable) → a .priorities ≡ b .priorities → a .outcomes ≡ b .outcomes → a .waits ≡ b .waits → a .waiting ≡ b .waiting → a ≡ b
+same-task-table a b p q r s = λ i. record { priorities = p i; outcomes = q i; waits = r i; waiting = s i }
+
+same-mutex-table : (a b : MutexTable) → a .kinds ≡ b .kinds → a .owners ≡ b .owners → a ≡ b
+same-mutex-table a b p q = λ i. record { kinds = p i; owners = q i }
+
+same-sem-table : (a b : SemTable) → a .counts ≡ b .counts → a .maxima ≡ b .maxima → a ≡ b
+same-sem-table a b p q = λ i. record { counts = p i; maxima = q i }
+
+same-tables : (a b : Tables) → a .tasks ≡ b .tasks → a .mutexes ≡ b .mutexes → a .semaphores ≡ b .semaphores → a ≡ b
+same-tables a b p q r = λ i. record { tasks = p i; mutexes = q i; semaphores = r i }
 
 same-model : (a b : Model) → a .tables ≡ b .tables → a .started ≡ b .started → a .clock ≡ b .clock → a .hold ≡ b .hold → a .running ≡ b .running → a .ready ≡ b .ready → a ≡ b
 same-model a b p1 p2 p3 p4 p5 p6 = λ i. record { tables = p1 i; started = p2 i; clock = p3 i; hold = p4 i; running = p5 i; ready = p6 i }
@@ -83,32 +89,35 @@ module _ (s : Model) (F : Facts (s .tables)) (word : s .clock < wordSize) where
       c : ℕ
       c = s .clock
 
-  waits-view : filled (tasks (s .tables)) (waitAt (packTasks (s .tables) (s .clock)) (s .clock)) ≡ s .tables .waits
-  waits-view = filled-is (tasks (s .tables)) _ none (s .tables .waits) (F .wait-column) (λ i h. wait-view i)
+  waits-view : filled (taskCount (s .tables)) (waitAt (packTasks (s .tables) (s .clock)) (s .clock)) ≡ s .tables .tasks .waits
+  waits-view = filled-is (taskCount (s .tables)) _ none (s .tables .tasks .waits) (F .wait-column) (λ i h. wait-view i)
 
   pub tables-pack : viewTables (pack s) ≡ s .tables
   unfolding viewTables pack packTasks packMutexes packSemaphores
   tables-pack = same-tables _ _
-      (take-pad maxTasks 0 (tasks (s .tables)) (s .tables .priorities) refl)
-      (take-pad maxTasks 0 (tasks (s .tables)) (s .tables .outcomes) (F .outcome-column))
+      (same-task-table _ _
+      (take-pad maxTasks 0 (taskCount (s .tables)) (s .tables .tasks .priorities) refl)
+      (take-pad maxTasks 0 (taskCount (s .tables)) (s .tables .tasks .outcomes) (F .outcome-column))
       waits-view
-      (items-taskListOf (s .tables .waiting))
-      (take-pad maxMutexes 0 (mutexes (s .tables)) (s .tables .kinds) (F .kind-column))
-      (ap (map taskAt) (take-pad maxMutexes noId (mutexes (s .tables)) (map idOf (s .tables .owners)) (length-map (s .tables .owners) idOf))
-      ∙ owner-list (s .tables .owners) (λ m o e. omega (arith, F .owners m o e, F .few-tasks)))
-      (take-pad maxSemaphores 0 (semaphores (s .tables)) (s .tables .counts) refl)
-      (take-pad maxSemaphores 0 (semaphores (s .tables)) (s .tables .maxima) (F .maximum-column))
+      (items-taskListOf (s .tables .tasks .waiting)))
+      (same-mutex-table _ _
+      (take-pad maxMutexes 0 (mutexCount (s .tables)) (s .tables .mutexes .kinds) (F .kind-column))
+      (ap (map taskAt) (take-pad maxMutexes noId (mutexCount (s .tables)) (map idOf (s .tables .mutexes .owners)) (length-map (s .tables .mutexes .owners) idOf))
+      ∙ owner-list (s .tables .mutexes .owners) (λ m o e. omega (arith, F .owners m o e, F .few-tasks))))
+      (same-sem-table _ _
+      (take-pad maxSemaphores 0 (semCount (s .tables)) (s .tables .semaphores .counts) refl)
+      (take-pad maxSemaphores 0 (semCount (s .tables)) (s .tables .semaphores .maxima) (F .maximum-column)))
 
 flag-back : (b : Bool) → not (eqb (cond b 1 0) 0) ≡ b
 flag-back true = refl
 flag-back false = refl
 
 module _ (s : Model) (I : Inv s) where
-  ids-in : (i : ℕ) → occ i (s .ready) + (occ i (s .tables .waiting) + occ i (opt (s .running))) ≤ below i (tasks (s .tables))
+  ids-in : (i : ℕ) → occ i (s .ready) + (occ i (s .tables .tasks .waiting) + occ i (opt (s .running))) ≤ below i (taskCount (s .tables))
   ids-in i = omega (arith, I .places i)
 
   runner-low : (i : ℕ) → s .running ≡ some i → i < maxTasks
-  runner-low i e = omega (arith, I .facts .few-tasks, in-below i (tasks (s .tables)) (omega (arith, ids-in i, occ-opt (s .running) i e)))
+  runner-low i e = omega (arith, I .facts .few-tasks, in-below i (taskCount (s .tables)) (omega (arith, ids-in i, occ-opt (s .running) i e)))
 
   -- what the packing of a sound state stands for is the state
   pub view-pack : view (pack s) ≡ s
@@ -116,10 +125,10 @@ module _ (s : Model) (I : Inv s) where
   view-pack = same-model _ _ (tables-pack s (I .facts) (I .clock-in)) (flag-back (s .started)) refl refl (task-back (s .running) runner-low) (items-taskListOf (s .ready))
 
   ready-fits : length (s .ready) ≤ maxTasks
-  ready-fits = omega (arith, I .facts .few-tasks, pigeonhole (tasks (s .tables)) (s .ready) (λ y. omega (arith, ids-in y, below-le y (tasks (s .tables)))) (λ y m. in-below y (tasks (s .tables)) (omega (arith, ids-in y))))
+  ready-fits = omega (arith, I .facts .few-tasks, pigeonhole (taskCount (s .tables)) (s .ready) (λ y. omega (arith, ids-in y, below-le y (taskCount (s .tables)))) (λ y m. in-below y (taskCount (s .tables)) (omega (arith, ids-in y))))
 
-  waiting-fits : length (s .tables .waiting) ≤ maxTasks
-  waiting-fits = omega (arith, I .facts .few-tasks, pigeonhole (tasks (s .tables)) (s .tables .waiting) (λ y. omega (arith, ids-in y, below-le y (tasks (s .tables)))) (λ y m. in-below y (tasks (s .tables)) (omega (arith, ids-in y))))
+  waiting-fits : length (s .tables .tasks .waiting) ≤ maxTasks
+  waiting-fits = omega (arith, I .facts .few-tasks, pigeonhole (taskCount (s .tables)) (s .tables .tasks .waiting) (λ y. omega (arith, ids-in y, below-le y (taskCount (s .tables)))) (λ y m. in-below y (taskCount (s .tables)) (omega (arith, ids-in y))))
 
 -- the codes of a wait keep the record's rules
 used-code : (clock : ℕ) (w : Option Wait)
@@ -154,19 +163,19 @@ module _ (t : Tables) (F : Facts t) (clock : ℕ) where
   unfolding usedTaskb
   used-tidy i = rw (kind-read t clock i, object-read t clock i, timed-read t clock i, due-read t clock i) (used-code clock (waitOf t i))
 
-  unused-tidy : (i : ℕ) → tasks t ≤ i → unusedTaskb (packTasks t clock) i ≡ true
+  unused-tidy : (i : ℕ) → taskCount t ≤ i → unusedTaskb (packTasks t clock) i ≡ true
   unfolding unusedTaskb kindCode objectCode timedCode dueCode _and_
   unused-tidy i h = rw (
-    priority-read t clock i ∙ List·getD-eq-default (t .priorities) 0 h,
+    priority-read t clock i ∙ List·getD-eq-default (t .tasks .priorities) 0 h,
     level-read t clock i ∙ level-out t i h,
-    outcome-read t clock i ∙ List·getD-eq-default (t .outcomes) 0 short,
+    outcome-read t clock i ∙ List·getD-eq-default (t .tasks .outcomes) 0 short,
     kind-read t clock i ∙ ap kindCode nobody,
     object-read t clock i ∙ ap objectCode nobody,
     timed-read t clock i ∙ ap timedCode nobody,
     due-read t clock i ∙ ap (dueCode clock) nobody,
   ) refl
     where
-      short : length (t .outcomes) ≤ i
+      short : length (t .tasks .outcomes) ≤ i
       short = omega (arith, F .outcome-column)
 
       nobody : waitOf t i ≡ none
@@ -174,16 +183,16 @@ module _ (t : Tables) (F : Facts t) (clock : ℕ) where
 
   tasks-tidy : tasksTidyb (packTasks t clock) ≡ true
   unfolding tasksTidyb taskPlaceb packTasks
-  tasks-tidy = true-and _ _ (le-leb _ _ (F .few-tasks)) (true-all maxTasks _ (λ i h. elim (decLt i (tasks t)) [
-    | yes q ↦ rw (lt-ltb i (tasks t) q) (used-tidy i)
-    | no q ↦ rw (le-ltb i (tasks t) (omega arith)) (unused-tidy i (omega arith))
+  tasks-tidy = true-and _ _ (le-leb _ _ (F .few-tasks)) (true-all maxTasks _ (λ i h. elim (decLt i (taskCount t)) [
+    | yes q ↦ rw (lt-ltb i (taskCount t) q) (used-tidy i)
+    | no q ↦ rw (le-ltb i (taskCount t) (omega arith)) (unused-tidy i (omega arith))
   ]))
 
   owner-zero : (j : ℕ) → j < maxMutexes → getD ((packMutexes t) .owner) j 0 ≡ idOf (ownerOf t j)
   unfolding packMutexes
-  owner-zero j h = other-default (pad maxMutexes noId (map idOf (t .owners))) j 0 noId (omega (arith, length-pad maxMutexes noId (map idOf (t .owners)) (omega (arith, F .few-mutexes, length-map (t .owners) idOf)))) ∙ owner-read t j
+  owner-zero j h = other-default (pad maxMutexes noId (map idOf (t .mutexes .owners))) j 0 noId (omega (arith, length-pad maxMutexes noId (map idOf (t .mutexes .owners)) (omega (arith, F .few-mutexes, length-map (t .mutexes .owners) idOf)))) ∙ owner-read t j
 
-  mutexes-n : (packMutexes t) .n ≡ mutexes t
+  mutexes-n : (packMutexes t) .n ≡ mutexCount t
   unfolding packMutexes
   mutexes-n = refl
 
@@ -195,11 +204,11 @@ module _ (t : Tables) (F : Facts t) (clock : ℕ) where
     where
       unused : (j : ℕ) → j < maxMutexes → (packMutexes t) .n ≤ j → eqb (getD ((packMutexes t) .kind) j 0) 0 and eqb (getD ((packMutexes t) .owner) j 0) noId ≡ true
       unused j h q =
-          let b : length (t .kinds) ≤ j = omega (arith, F .kind-column, mutexes-n) in
-          let c : length (t .owners) ≤ j = omega (arith, mutexes-n) in
-          true-and _ _ (eq-eqb _ _ (mutex-read t j ∙ List·getD-eq-default (t .kinds) 0 b)) (eq-eqb _ _ (owner-zero j h ∙ ap idOf (List·getD-eq-default (t .owners) none c)))
+          let b : length (t .mutexes .kinds) ≤ j = omega (arith, F .kind-column, mutexes-n) in
+          let c : length (t .mutexes .owners) ≤ j = omega (arith, mutexes-n) in
+          true-and _ _ (eq-eqb _ _ (mutex-read t j ∙ List·getD-eq-default (t .mutexes .kinds) 0 b)) (eq-eqb _ _ (owner-zero j h ∙ ap idOf (List·getD-eq-default (t .mutexes .owners) none c)))
 
-  semaphores-n : (packSemaphores t) .n ≡ semaphores t
+  semaphores-n : (packSemaphores t) .n ≡ semCount t
   unfolding packSemaphores
   semaphores-n = refl
 
@@ -208,9 +217,9 @@ module _ (t : Tables) (F : Facts t) (clock : ℕ) where
   semaphores-tidy = true-and _ _ (le-leb ((packSemaphores t) .n) maxSemaphores (omega (arith, F .few-semaphores, semaphores-n))) (true-all maxSemaphores _ (λ j h. elim (which (ltb j ((packSemaphores t) .n))) [
     | inl q ↦ or-l _ _ q
     | inr q ↦ (
-        let b : length (t .counts) ≤ j = omega (arith, ltb-false j _ q, semaphores-n) in
-        let c : length (t .maxima) ≤ j = omega (arith, F .maximum-column) in
-        or-r _ _ (true-and _ _ (eq-eqb _ _ (count-read t j ∙ List·getD-eq-default (t .counts) 0 b)) (eq-eqb _ _ (maximum-read t j ∙ List·getD-eq-default (t .maxima) 0 c)))
+        let b : length (t .semaphores .counts) ≤ j = omega (arith, ltb-false j _ q, semaphores-n) in
+        let c : length (t .semaphores .maxima) ≤ j = omega (arith, F .maximum-column) in
+        or-r _ _ (true-and _ _ (eq-eqb _ _ (count-read t j ∙ List·getD-eq-default (t .semaphores .counts) 0 b)) (eq-eqb _ _ (maximum-read t j ∙ List·getD-eq-default (t .semaphores .maxima) 0 c)))
         )
   ]))
 
@@ -226,7 +235,7 @@ module _ (s : Model) (I : Inv s) where
       (true-and _ _ (mutexes-tidy (s .tables) (I .facts) (s .clock))
       (true-and _ _ (semaphores-tidy (s .tables) (I .facts) (s .clock))
       (true-and _ _ (task-list-tidy (s .ready) (ready-fits s I))
-      (true-and _ _ (task-list-tidy (s .tables .waiting) (waiting-fits s I))
+      (true-and _ _ (task-list-tidy (s .tables .tasks .waiting) (waiting-fits s I))
       (true-and _ _ (true-flag (s .started)) (true-id (s .running) (runner-low s I)))))))
 
   pub pack-levels : levelsb (pack s) ≡ true

@@ -4,11 +4,11 @@ use Prim.Native.Nat.{ℕ}
 use lib.Dec.{ltb, leb, eqb}
 use lib.ListN.{getD}
 use Rattle.lists.specs.Test.{_and_, _or_, allb}
-use Rattle.rules.specs.Sizes.{maxTasks, maxMutexes, maxSemaphores}
+use Rattle.rules.specs.Sizes.{maxTasks, maxMutexes, maxSemaphores, onMutex, onSemaphore, onTime}
 use Rattle.rules.specs.Levels.{levelIn}
 use Rattle.rules.specs.Sound.{soundb}
 use Rattle.task_lists.specs.TaskList.{places, noId}
-use Rattle.record.specs.Record.{onMutex, onSemaphore, onTime, viewTables, view}
+use Rattle.record.specs.Record.{viewTables, view}
 use Rattle.record.specs.declared.State.{State}  -- keep
 use Rattle.record.specs.declared.Tasks.{Tasks}  -- keep
 use Rattle.record.specs.declared.Mutexes.{Mutexes}  -- keep

@@ -7,9 +7,8 @@ use native.Mathlib.Omega.{arith}
 use lib.ListN.{getD}
 use borrow.Author.Tests.{ltb-true, leb-true, eqb-true, not-true, lt-ltb, le-ltb, eq-eqb}
 use Rattle.lists.specs.TestLaws.{clash, and-l, and-r, or-true, all-true}
-use Rattle.rules.specs.Sizes.{maxTasks, maxMutexes, maxSemaphores}
+use Rattle.rules.specs.Sizes.{maxTasks, maxMutexes, maxSemaphores, onTime}
 use Rattle.task_lists.specs.TaskList.{places, noId}
-use Rattle.record.specs.Record.{onTime}
 use Rattle.record.specs.SoundRecord.{usedTaskb, unusedTaskb, taskPlaceb, tasksTidyb, idb, mutexPlaceb, mutexesTidyb, semPlaceb, semaphoresTidyb, taskListTidyb, tidyb}
 use Rattle.record.specs.declared.State.{State}  -- keep
 

@@ -1,5 +1,6 @@
 -- What the view of a record holds at each place, where unused places are as in the fresh state.
 use mathlib.Core.Path.{_≡_, refl, ap, sym, _∙_}
+use mathlib.Core.List.{List}
 use mathlib.Core.Bool.{Bool, true, false, cond}
 use mathlib.Core.Logic.{_⊎_, inl, inr}
 use mathlib.Core.Option.{Option, none}
@@ -14,39 +15,43 @@ use Rattle.lists.specs.Table.{filled}
 use Rattle.lists.specs.TestLaws.{which, by-test, and-l, and-r, or-true, all-true}
 use Rattle.lists.specs.TableLaws.{length-filled, getD-filled}
 use Rattle.chains.specs.Least.{leastLeading}
-use Rattle.rules.specs.Sizes.{maxTasks, maxMutexes, inheriting}
-use Rattle.rules.specs.Tables.{tasks, mutexes, semaphores, priorityOf, outcomeOf, waitOf, kindOf, ownerOf, countOf, maximumOf}
-use Rattle.rules.specs.Levels.{mutexAwaited, andThen, next, heirOf, lends, levelIn}
+use Rattle.rules.specs.Sizes.{maxTasks, maxMutexes, inheriting, onMutex, onSemaphore, onTime}
+use Rattle.rules.specs.Tables.{Awaited, mutexOf, semOf, time, awaitedBy, taskCount, mutexCount, semCount, priorityOf, outcomeOf, waitOf, kindOf, ownerOf, countOf, maximumOf}
+use Rattle.rules.specs.Levels.{ownerAwaited, heirAwaited, ofWait, next, lends, levelIn}
 use Rattle.task_lists.specs.TaskList.{noId, keyOf}
 use Rattle.walks.specs.Walk.{taskAt, nextIn, raised}
 use Rattle.walks.specs.WalkLaws.{other-default, next-in, next-out, next-agrees, leading-own, raised-ext}
-use Rattle.record.specs.Record.{onMutex, onSemaphore, onTime, leftIn, waitIn, waitAt, viewTables}
+use Rattle.record.specs.Record.{waitWith, waitIn, waitAt, viewTables}
 use Rattle.record.specs.SoundRecord.{unusedTaskb, mutexPlaceb, tidyb, levelsb}
-use Rattle.record.specs.Reads.{ownerAt, kindAt, nextAt, lendsAt, newLevels, countAt, maximumAt}
+use Rattle.record.specs.Reads.{ownerAt, kindAt, ledBy, leadsAt, nextAt, heirAt, lendsAt, newLevels, countAt, maximumAt}
 use Rattle.record.specs.GoodRecord.{Typed}
 use Rattle.record.specs.TidyLaws.{tasks-fit, mutexes-fit, semaphores-fit, mutex-place, unused-task}
 use Rattle.record.specs.declared.State.{State}  -- keep
-use Rattle.rules.specs.Levels.{mutexIn}  -- keep
 
 -- a stored level, where stored levels are as defined
 pub stored-level : (k : State) → levelsb k ≡ true → (i : ℕ) → i < k .tasks .n → keyOf (k .tasks .level) i ≡ levelIn (viewTables k) i
 unfolding levelsb
 stored-level k e i h = eqb-true _ _ (all-true (k .tasks .n) _ e i h)
 
--- the mutex of a wait, by the places of its task
-after-wait : (kind object : ℕ) (left : Option ℕ) (f : ℕ → Option ℕ) → andThen (mutexAwaited (waitIn kind object left)) f ≡ cond (eqb kind onMutex) (f object) none
-unfolding waitIn mutexAwaited mutexIn andThen
-after-wait kind object left f = elim (which (eqb kind onMutex)) [
+-- whom a wait leads to, by the places of its task, where only waits for mutexes lead to anyone
+after-wait : (kind object : ℕ) (left : Option ℕ) (f : Awaited → Option ℕ) → ((j : ℕ) → f (semOf j) ≡ none) → f time ≡ none
+    → ofWait f (waitIn kind object left) ≡ cond (eqb kind onMutex) (f (mutexOf object)) none
+unfolding waitWith awaitedBy ofWait
+after-wait kind object left f no-sem no-time = elim (which (eqb kind onMutex)) [
   | inl e ↦ rw e refl
   | inr e ↦ rw e (elim (which (eqb kind onSemaphore)) [
-    | inl u ↦ rw u refl
-    | inr u ↦ rw u (elim (which (eqb kind onTime)) [ inl v ↦ rw v refl | inr v ↦ rw v refl ])
+    | inl u ↦ rw u (no-sem object)
+    | inr u ↦ rw u (elim (which (eqb kind onTime)) [ inl v ↦ rw v no-time | inr v ↦ rw v refl ])
   ])
 ]
 
 task-cond : (b : Bool) (x : ℕ) → taskAt (cond b x noId) ≡ cond b (taskAt x) none
 task-cond true x = refl
 task-cond false x = refl
+
+either : (b : Bool) (x : ℕ) → cond b x x ≡ x
+either true x = refl
+either false x = refl
 
 nothing : (b c : Bool) → _≡_ {A = Option ℕ} (cond b none none) (cond c none none)
 nothing true true = refl
@@ -101,32 +106,32 @@ module _ (k : State) (T : Typed k) (tidy : tidyb k ≡ true) where
     | no l ↦ List·getD-eq-default (k .mutexes .owner) noId (omega (arith, T .owner-length))
   ]
 
-  pub view-tasks : tasks (viewTables k) ≡ k .tasks .n
+  pub view-tasks : taskCount (viewTables k) ≡ k .tasks .n
   unfolding viewTables
   view-tasks = length-take-le (k .tasks .n) (k .tasks .priority) (omega (arith, T .priority-length, tasks-fit k tidy))
 
-  pub view-outcomes : length (viewTables k .outcomes) ≡ k .tasks .n
+  pub view-outcomes : length (viewTables k .tasks .outcomes) ≡ k .tasks .n
   unfolding viewTables
   view-outcomes = length-take-le (k .tasks .n) (k .tasks .outcome) (omega (arith, T .outcome-length, tasks-fit k tidy))
 
-  pub view-waits : length (viewTables k .waits) ≡ k .tasks .n
+  pub view-waits : length (viewTables k .tasks .waits) ≡ k .tasks .n
   unfolding viewTables
   view-waits = length-filled (k .tasks .n) (waitAt (k .tasks) (k .clock))
 
-  pub view-mutexes : mutexes (viewTables k) ≡ k .mutexes .n
+  pub view-mutexes : mutexCount (viewTables k) ≡ k .mutexes .n
   unfolding viewTables
   view-mutexes = length-map (take (k .mutexes .n) (k .mutexes .owner)) taskAt
       ∙ length-take-le (k .mutexes .n) (k .mutexes .owner) (omega (arith, T .owner-length, mutexes-fit k tidy))
 
-  pub view-kinds : length (viewTables k .kinds) ≡ k .mutexes .n
+  pub view-kinds : length (viewTables k .mutexes .kinds) ≡ k .mutexes .n
   unfolding viewTables
   view-kinds = length-take-le (k .mutexes .n) (k .mutexes .kind) (omega (arith, T .kind-length, mutexes-fit k tidy))
 
-  pub view-semaphores : semaphores (viewTables k) ≡ k .semaphores .n
+  pub view-semaphores : semCount (viewTables k) ≡ k .semaphores .n
   unfolding viewTables
   view-semaphores = length-take-le (k .semaphores .n) (k .semaphores .count) (omega (arith, T .count-length, semaphores-fit k tidy))
 
-  pub view-maxima : length (viewTables k .maxima) ≡ k .semaphores .n
+  pub view-maxima : length (viewTables k .semaphores .maxima) ≡ k .semaphores .n
   unfolding viewTables
   view-maxima = length-take-le (k .semaphores .n) (k .semaphores .maximum) (omega (arith, T .maximum-length, semaphores-fit k tidy))
 
@@ -143,7 +148,7 @@ module _ (k : State) (T : Typed k) (tidy : tidyb k ≡ true) where
   view-wait i h = getD-filled (k .tasks .n) (waitAt (k .tasks) (k .clock)) none i h
 
   pub view-wait-out : (i : ℕ) → k .tasks .n ≤ i → waitOf (viewTables k) i ≡ none
-  view-wait-out i h = List·getD-eq-default (viewTables k .waits) none (omega (arith, view-waits))
+  view-wait-out i h = List·getD-eq-default (viewTables k .tasks .waits) none (omega (arith, view-waits))
 
   pub view-kind : (j : ℕ) → j < k .mutexes .n → kindOf (viewTables k) j ≡ kindAt (k .mutexes) j
   unfolding viewTables
@@ -167,48 +172,51 @@ module _ (k : State) (T : Typed k) (tidy : tidyb k ≡ true) where
   unfolding viewTables
   view-maximum j h = getD-take (k .semaphores .n) (k .semaphores .maximum) j 0 h
 
-  -- the task after i, of those that wait for a mutex
-  after-at : (i : ℕ) → i < k .tasks .n → (f : ℕ → Option ℕ)
-      → andThen (mutexAwaited (waitOf (viewTables k) i)) f ≡ cond (eqb (getD (k .tasks .wait) i 0) onMutex) (f (getD (k .tasks .object) i 0)) none
-  unfolding waitAt
-  after-at i h f = rw (view-wait i h) (after-wait (getD (k .tasks .wait) i 0) (getD (k .tasks .object) i 0) (leftIn (getD (k .tasks .timed) i 0) (getD (k .tasks .due) i 0) (k .clock)) f)
-
-  pub next-at : (i : ℕ) → i < k .tasks .n → taskAt (nextAt (k .tasks) (k .mutexes) i) ≡ next (viewTables k) i
-  unfolding nextAt next
-  next-at i h = by-test (λ (x : ℕ). taskAt x ≡ andThen (mutexAwaited (waitOf (viewTables k) i)) (ownerOf (viewTables k))) (eqb (getD (k .tasks .wait) i 0) onMutex)
-      (λ e. sym (after-at i h (ownerOf (viewTables k)) ∙ rw e (view-owner (getD (k .tasks .object) i 0))))
-      (λ e. sym (after-at i h (ownerOf (viewTables k)) ∙ rw e refl))
+  -- whom a wait leads to, where the table of mutexes tells whom a wait for each leads to
+  led-wait : (l : List ℕ) (f : Awaited → Option ℕ) → ((j : ℕ) → taskAt (getD l j noId) ≡ f (mutexOf j)) → ((j : ℕ) → f (semOf j) ≡ none) → f time ≡ none
+      → (i : ℕ) → i < k .tasks .n → taskAt (leadsAt (k .tasks) l i) ≡ ofWait f (waitOf (viewTables k) i)
+  unfolding ledBy waitAt
+  led-wait l f told no-sem no-time i h =
+      let kind = getD (k .tasks .wait) i 0 in
+      let object = getD (k .tasks .object) i 0 in
+      rw (view-wait i h) (task-cond (eqb kind onMutex) (getD l object noId) ∙ ap (λ o. cond (eqb kind onMutex) o none) (told object) ∙ sym (after-wait kind object _ f no-sem no-time))
 
   -- the owner of an inheriting mutex
-  view-heir : (j : ℕ) → taskAt (cond (eqb (kindAt (k .mutexes) j) inheriting) (ownerAt (k .mutexes) j) noId) ≡ heirOf (viewTables k) j
-  view-heir j = task-cond (eqb (kindAt (k .mutexes) j) inheriting) (ownerAt (k .mutexes) j) ∙ elim (decLt j (k .mutexes .n)) [
-    | yes h ↦ sym (rw (view-kind j h, view-owner j) refl)
-    | no h ↦ rw (view-owner j, unused-owner j (omega arith)) (nothing (eqb (kindAt (k .mutexes) j) inheriting) (eqb (kindOf (viewTables k) j) inheriting))
+  view-heir : (j : ℕ) → taskAt (getD (filled maxMutexes (heirAt (k .mutexes))) j noId) ≡ heirAwaited (viewTables k) (mutexOf j)
+  unfolding heirAwaited
+  view-heir j = elim (decLt j (k .mutexes .n)) [
+    | yes h ↦ ap taskAt (getD-filled maxMutexes (heirAt (k .mutexes)) noId j (omega (arith, mutexes-fit k tidy)))
+        ∙ task-cond (eqb (kindAt (k .mutexes) j) inheriting) (ownerAt (k .mutexes) j) ∙ sym (rw (view-kind j h, view-owner j) refl)
+    | no h ↦ ap taskAt (heir-out j (omega arith)) ∙ rw (view-owner j, unused-owner j (omega arith)) (nothing true (eqb (kindOf (viewTables k) j) inheriting))
   ]
+    where
+      heir-out : (j : ℕ) → k .mutexes .n ≤ j → getD (filled maxMutexes (heirAt (k .mutexes))) j noId ≡ noId
+      heir-out j h = elim (decLt j maxMutexes) [
+        | yes l ↦ getD-filled maxMutexes (heirAt (k .mutexes)) noId j l ∙ rw (unused-owner j h) (either (eqb (kindAt (k .mutexes) j) inheriting) noId)
+        | no l ↦ List·getD-eq-default (filled maxMutexes (heirAt (k .mutexes))) noId (omega (arith, length-filled maxMutexes (heirAt (k .mutexes))))
+      ]
+
+  pub next-at : (i : ℕ) → i < k .tasks .n → taskAt (nextAt (k .tasks) (k .mutexes) i) ≡ next (viewTables k) i
+  unfolding next ownerAwaited
+  next-at = led-wait (k .mutexes .owner) (ownerAwaited (viewTables k)) (λ j. sym (view-owner j)) (λ j. refl) refl
 
   pub lends-at : (i : ℕ) → i < k .tasks .n → taskAt (lendsAt (k .tasks) (k .mutexes) i) ≡ lends (viewTables k) i
-  unfolding lendsAt lends
-  lends-at i h = by-test (λ (x : ℕ). taskAt x ≡ andThen (mutexAwaited (waitOf (viewTables k) i)) (heirOf (viewTables k))) (eqb (getD (k .tasks .wait) i 0) onMutex)
-      (λ e. view-heir (getD (k .tasks .object) i 0) ∙ sym (after-at i h (heirOf (viewTables k)) ∙ rw e refl))
-      (λ e. sym (after-at i h (heirOf (viewTables k)) ∙ rw e refl))
+  unfolding lends heirAwaited
+  lends-at = led-wait (filled maxMutexes (heirAt (k .mutexes))) (heirAwaited (viewTables k)) view-heir (λ j. refl) refl
 
   -- behind the last task there is none
-  next-at-out : (i : ℕ) → k .tasks .n ≤ i → nextAt (k .tasks) (k .mutexes) i ≡ noId
-  unfolding nextAt
-  next-at-out i h = rw (ne-eqb (getD (k .tasks .wait) i 0) onMutex (λ e. omega (arith, unused-wait i h))) refl
-
-  lends-at-out : (i : ℕ) → k .tasks .n ≤ i → lendsAt (k .tasks) (k .mutexes) i ≡ noId
-  unfolding lendsAt
-  lends-at-out i h = rw (ne-eqb (getD (k .tasks .wait) i 0) onMutex (λ e. omega (arith, unused-wait i h))) refl
+  leads-out : (l : List ℕ) (i : ℕ) → k .tasks .n ≤ i → leadsAt (k .tasks) l i ≡ noId
+  unfolding ledBy
+  leads-out l i h = rw (ne-eqb (getD (k .tasks .wait) i 0) onMutex (λ e. omega (arith, unused-wait i h))) refl
 
   -- the tables of ids and the rules' maps
   pub next-same : (i : ℕ) → nextIn (filled maxTasks (nextAt (k .tasks) (k .mutexes))) i ≡ next (viewTables k) i
-  unfolding next mutexAwaited andThen
-  next-same = map-same (nextAt (k .tasks) (k .mutexes)) (next (viewTables k)) (k .tasks .n) (tasks-fit k tidy) next-at next-at-out (λ i h. rw (view-wait-out i h) refl)
+  unfolding next ofWait
+  next-same = map-same (nextAt (k .tasks) (k .mutexes)) (next (viewTables k)) (k .tasks .n) (tasks-fit k tidy) next-at (leads-out (k .mutexes .owner)) (λ i h. rw (view-wait-out i h) refl)
 
   pub lends-same : (i : ℕ) → nextIn (filled maxTasks (lendsAt (k .tasks) (k .mutexes))) i ≡ lends (viewTables k) i
-  unfolding lends mutexAwaited andThen
-  lends-same = map-same (lendsAt (k .tasks) (k .mutexes)) (lends (viewTables k)) (k .tasks .n) (tasks-fit k tidy) lends-at lends-at-out (λ i h. rw (view-wait-out i h) refl)
+  unfolding lends ofWait
+  lends-same = map-same (lendsAt (k .tasks) (k .mutexes)) (lends (viewTables k)) (k .tasks .n) (tasks-fit k tidy) lends-at (leads-out (filled maxMutexes (heirAt (k .mutexes)))) (λ i h. rw (view-wait-out i h) refl)
 
   -- the levels that the code works out are those of the rules
   pub new-level : (i : ℕ) → i < k .tasks .n → getD (newLevels (k .tasks) (k .mutexes)) i 0 ≡ levelIn (viewTables k) i

@@ -1,60 +1,66 @@
-// Who leads to whom by the waits for mutexes, and the levels that follow.
+// Who leads to whom by what each task waits for, and the levels that follow.
 ghost use mathlib.Core.Path.{_≡_};
 ghost use Prim.Native.Nat.{_<_};
 ghost use Rattle.lists.specs.Table.{filled};
-ghost use Rattle.rules.specs.Sizes.{maxTasks};
-ghost use Rattle.record.specs.Reads.{nextAt, lendsAt, newLevels};
+ghost use Rattle.rules.specs.Sizes.{maxTasks, maxMutexes};
+ghost use Rattle.record.specs.Reads.{ledBy, leadsAt, nextAt, heirAt, newLevels};
 use crate::INHERITING;
+use crate::MUTEXES;
 use crate::Mutexes;
 use crate::NONE;
 use crate::ON_MUTEX;
 use crate::TASKS;
 use crate::Tasks;
-use crate::reads;
 
-// The owner of the mutex for which task `i` waits, mutexes of every kind.
-fn next_at(t: Tasks, m: Mutexes, i: usize) -> u8
-    requires { ⌜ i < maxTasks ⌝ }
-    ensures { λ r. ⌜ r ≡ nextAt t m i ⌝ }
+// Whom a wait leads to, by its kind and object; `mutexes` says whom a wait for each mutex leads to. A new kind of wait is a test more.
+fn led_by(mutexes: [u8; MUTEXES], kind: u8, object: u8) -> u8
+    ensures { λ r. ⌜ r ≡ ledBy mutexes kind object ⌝ }
 {
-    if t.wait[i] != ON_MUTEX {
-        return NONE;
+    let i = object as usize;
+    if kind == ON_MUTEX {
+        if i < MUTEXES {
+            return mutexes[i];
+        }
     }
-    reads::owner_at(m, t.object[i])
+    NONE
 }
 
-// Who leads to whom, by mutexes of every kind.
-pub fn next_of(t: Tasks, m: Mutexes) -> [u8; TASKS]
-    ensures { λ r. ⌜ r ≡ filled maxTasks (nextAt t m) ⌝ }
+// Whom each task leads to.
+fn leads_of(t: Tasks, mutexes: [u8; MUTEXES]) -> [u8; TASKS]
+    ensures { λ r. ⌜ r ≡ filled maxTasks (leadsAt t mutexes) ⌝ }
 {
     let mut a = [NONE; TASKS];
     for i in 0..TASKS {
-        a[i] = next_at(t, m, i);
+        a[i] = led_by(mutexes, t.wait[i], t.object[i]);
     }
     a
 }
 
-// The owner of the inheriting mutex for which task `i` waits.
-fn lends_at(t: Tasks, m: Mutexes, i: usize) -> u8
-    requires { ⌜ i < maxTasks ⌝ }
-    ensures { λ r. ⌜ r ≡ lendsAt t m i ⌝ }
+// The owner of what each task waits for, mutexes of every kind.
+pub fn next_of(t: Tasks, m: Mutexes) -> [u8; TASKS]
+    ensures { λ r. ⌜ r ≡ filled maxTasks (nextAt t m) ⌝ }
 {
-    if t.wait[i] != ON_MUTEX {
-        return NONE;
-    }
-    if reads::kind_at(m, t.object[i]) != INHERITING {
-        return NONE;
-    }
-    reads::owner_at(m, t.object[i])
+    let owners = m.owner;
+    leads_of(t, owners)
 }
 
-// Who lends a level to whom.
-fn lends_of(t: Tasks, m: Mutexes) -> [u8; TASKS]
-    ensures { λ r. ⌜ r ≡ filled maxTasks (lendsAt t m) ⌝ }
+// Who is lent the levels of those that wait for a mutex: its owner, where it is inheriting.
+fn heir_of(m: Mutexes, i: usize) -> u8
+    requires { ⌜ i < maxMutexes ⌝ }
+    ensures { λ r. ⌜ r ≡ heirAt m i ⌝ }
 {
-    let mut a = [NONE; TASKS];
-    for i in 0..TASKS {
-        a[i] = lends_at(t, m, i);
+    if m.kind[i] != INHERITING {
+        return NONE;
+    }
+    m.owner[i]
+}
+
+fn heirs_of(m: Mutexes) -> [u8; MUTEXES]
+    ensures { λ r. ⌜ r ≡ filled maxMutexes (heirAt m) ⌝ }
+{
+    let mut a = [NONE; MUTEXES];
+    for i in 0..MUTEXES {
+        a[i] = heir_of(m, i);
     }
     a
 }
@@ -63,7 +69,8 @@ fn lends_of(t: Tasks, m: Mutexes) -> [u8; TASKS]
 pub fn new_levels(t: Tasks, m: Mutexes) -> [u8; TASKS]
     ensures { λ r. ⌜ r ≡ newLevels t m ⌝ }
 {
-    let lends = lends_of(t, m);
+    let heirs = heirs_of(m);
+    let lends = leads_of(t, heirs);
     let own = t.priority;
     walks::levels_of(own, &lends, t.n)
 }

@@ -18,21 +18,22 @@ use Rattle.lists.specs.TestLaws.{which, clash, by-test, same-test}
 use Rattle.lists.specs.TableLaws.{snoc-default}
 use Rattle.chains.specs.Least.{leastLeading}
 use Rattle.rules.specs.Sizes.{inheriting, forever, granted, flushed}
-use Rattle.rules.specs.Tables.{Awaited, mutexOf, semOf, time, Wait, Tables, withCounts, withMaxima, tasks, mutexes, priorityOf, waitOf, kindOf, ownerOf, countOf}
-use Rattle.rules.specs.Levels.{mutexAwaited, andThen, next, heirOf, lends, levelIn, linksOf, waitIsFor, awaits, waitersOf, bestWaiter}
+use Rattle.rules.specs.Tables.{Awaited, mutexOf, semOf, time, Wait, SemTable, Tables, withSemaphores, taskCount, mutexCount, priorityOf, waitOf, kindOf, ownerOf, countOf}
+use Rattle.rules.specs.Levels.{ownerAwaited, heirAwaited, ofWait, next, lends, levelIn, linksOf, waitIsFor, awaits, waitersOf, bestWaiter}
 use Rattle.rules.specs.State.{State, fresh, withTables, placed, levelOf}
 use Rattle.rules.specs.Step.{Step, task, mutex, sem, start, lock, unlock, pend, post, flush, sleep, yield, hold, free, tick, level, outcome}
 use Rattle.rules.specs.Effect.{Effect, done, addTask, addMutex, give, setCount, beginWait, endWaits, ticksOf, waitFor, callerWaits, lockBy, passOn, pendBy, credit, flushOf, isDue, due, lessOne, age, ageAll, tickOf, yieldBy, effect}
 use Rattle.rules.specs.Settle.{settle, meet, dispatch, finish}
 use Rattle.rules.specs.Refusal.{ofCaller, noCredit, callerOwns, refusals, firstRow}
-use Rattle.rules.specs.Answer.{Answer, answered, standing}
+use Rattle.rules.specs.Answer.{Answer, answerWith, answered, standing}
 use Rattle.rules.specs.Log.{Call, call}
-use Rattle.rules.specs.Invariant.{Facts, Inv}
+use Rattle.rules.specs.Invariant.{Left, Timed, Facts, Inv}
 use Rattle.rules.specs.FactsLaws.{wait-ended}
 use Rattle.rules.specs.WaiterLaws.{best-is-least}
 use Rattle.rules.specs.StepLaws.{passed, called-by, caller-in}
 use Rattle.rules.specs.SoundLaws.{inv-sound}
-use Rattle.rules.specs.History.{Event, Begun, Told, nothingTold, begunMutex, toldNext, toldHeir, toldLends, toldLevel, begunFor, toldBest, toldOwner, begins, endsWhere, endsOf, timeUp, oneMore, ticked, runnerOwns, handsOver, tells, nowRuns, observe}
+use Rattle.rules.specs.History.{Begun, Told, nothingTold, toldOwner, toldHeir, ofBegun, toldNext, toldLends, toldLevel, begunFor, toldBest, nowOwned, begins, endsWhere, endsOf, timeUp, oneMore, ticked, runnerOwns, handsOver, tells, nowRuns, observe}
+use Rattle.rules.specs.Demand.{eventOf, timeIn, begunIn, toldIn}
 use Rattle.rules.specs.RefusalLaws.{refused-number, refused-above, step-by, call-by, sound-stands}
 
 -- a wait as the list tells it, in the words of the tables
@@ -42,11 +43,11 @@ asWait (some b) = some (record { on = b .on; left = cond (eqb (b .time) forever)
 
 -- the tables match what is told
 pub record Matches (t : Tables) (h : Told) : Type 0 where
-  pub priorities : h .priorities ≡ t .priorities
-  pub kinds : h .kinds ≡ t .kinds
+  pub priorities : h .priorities ≡ t .tasks .priorities
+  pub kinds : h .kinds ≡ t .mutexes .kinds
   pub owner : (m : ℕ) → h .owner m ≡ ownerOf t m
   pub wait : (i : ℕ) → asWait (h .wait i) ≡ waitOf t i
-  pub order : h .order ≡ t .waiting
+  pub order : h .order ≡ t .tasks .waiting
 
 -- the state is as told
 pub record Agrees (s : State) (h : Told) : Type 0 where
@@ -55,20 +56,35 @@ pub record Agrees (s : State) (h : Told) : Type 0 where
   pub depth : h .depth ≡ s .hold
   pub started : h .started ≡ s .started
 
-pub fresh-agrees : Agrees fresh nothingTold
-unfolding fresh nothingTold asWait
-fresh-agrees = record {
-  tables = record { priorities = refl; kinds = refl; owner = λ m. refl; wait = λ i. refl; order = refl };
+-- every sound state is as it tells
+wait-as : (w : Option Wait) → Timed w → asWait (begunIn w) ≡ w
+unfolding asWait begunIn timeIn
+wait-as none h = refl
+wait-as (some w) h = go (w .left) h
+  where
+    go : (l : Option ℕ) → Left (w .on) l → asWait (begunIn (some (record { on = w .on; left = l }))) ≡ some (record { on = w .on; left = l })
+    go none h = refl
+    go (some n) h = rw (ne-eqb n forever (λ e. omega (arith, h .1))) (ap (λ k. some (record { on = w .on; left = some k })) (omega arith))
+
+pub tells-agrees : (s : State) → Inv s → Agrees s (toldIn s)
+unfolding toldIn
+tells-agrees s I = record {
+  tables = record { priorities = refl; kinds = refl; owner = λ m. refl; wait = λ i. wait-as (waitOf (s .tables) i) (I .facts .timed i); order = refl };
   runs = refl;
   depth = refl;
   started = refl;
 }
 
+-- a fresh state tells nothing
+pub fresh-tells : toldIn fresh ≡ nothingTold
+unfolding toldIn fresh nothingTold begunIn
+fresh-tells = refl
+
 -- a wait, as told and in the tables
-begun-mutex : (w : Option Begun) → begunMutex w ≡ mutexAwaited (asWait w)
-unfolding begunMutex mutexAwaited asWait
-begun-mutex none = refl
-begun-mutex (some b) = refl
+begun-of : (f : Awaited → Option ℕ) (w : Option Begun) → ofBegun f w ≡ ofWait f (asWait w)
+unfolding ofBegun ofWait asWait
+begun-of f none = refl
+begun-of f (some b) = refl
 
 begun-for : (a : Awaited) (w : Option Begun) → begunFor w a ≡ waitIsFor (asWait w) a
 unfolding begunFor waitIsFor asWait
@@ -96,23 +112,31 @@ more-less (some b) = ap (λ l. some (record { on = b .on; left = l })) (go (b .t
     go t n = elim (which (eqb t forever)) [ inl e ↦ rw e refl | inr e ↦ rw e (ap some (omega arith)) ]
 
 module _ {t : Tables} {h : Told} (A : Matches t h) where
-  mutex-told : (i : ℕ) → begunMutex (h .wait i) ≡ mutexAwaited (waitOf t i)
-  mutex-told i = begun-mutex (h .wait i) ∙ ap mutexAwaited (A .wait i)
+  -- whom each wait leads to, where the same is told of what is awaited
+  led-told : (f g : Awaited → Option ℕ) → ((a : Awaited) → f a ≡ g a) → (i : ℕ) → ofBegun f (h .wait i) ≡ ofWait g (waitOf t i)
+  led-told f g same i = (begun-of f (h .wait i) ∙ ap (ofWait f) (A .wait i) ∙ ap (λ k. ofWait k (waitOf t i)) (fun-ext same))
 
   pub next-told : toldNext h ≡ next t
-  unfolding toldNext next
-  next-told = fun-ext (λ i. ap (λ w. andThen w (h .owner)) (mutex-told i) ∙ ap (andThen (mutexAwaited (waitOf t i))) (fun-ext (A .owner)))
+  unfolding toldNext next toldOwner ownerAwaited
+  next-told = fun-ext (led-told (toldOwner h) (ownerAwaited t) same)
+    where
+      same : (a : Awaited) → toldOwner h a ≡ ownerAwaited t a
+      same (mutexOf m) = A .owner m
+      same (semOf k) = refl
+      same time = refl
 
   pub lends-told : toldLends h ≡ lends t
-  unfolding toldLends lends
-  lends-told = fun-ext (λ i. ap (λ w. andThen w (toldHeir h)) (mutex-told i) ∙ ap (andThen (mutexAwaited (waitOf t i))) (fun-ext same))
+  unfolding toldLends lends toldHeir heirAwaited
+  lends-told = fun-ext (led-told (toldHeir h) (heirAwaited t) same)
     where
-      same : (m : ℕ) → toldHeir h m ≡ heirOf t m
-      same m = ap (λ k. cond (eqb (getD k m 0) inheriting) (h .owner m) none) (A .kinds) ∙ ap (λ o. cond (eqb (kindOf t m) inheriting) o none) (A .owner m)
+      same : (a : Awaited) → toldHeir h a ≡ heirAwaited t a
+      same (mutexOf m) = ap (λ k. cond (eqb (getD k m 0) inheriting) (h .owner m) none) (A .kinds) ∙ ap (λ o. cond (eqb (kindOf t m) inheriting) o none) (A .owner m)
+      same (semOf k) = refl
+      same time = refl
 
   pub level-told : toldLevel h ≡ levelIn t
   unfolding toldLevel levelIn
-  level-told = ap (λ p. leastLeading (length p) (toldLends h) (λ i. getD p i 0)) (A .priorities) ∙ ap (λ l. leastLeading (tasks t) l (priorityOf t)) lends-told
+  level-told = ap (λ p. leastLeading (length p) (toldLends h) (λ i. getD p i 0)) (A .priorities) ∙ ap (λ l. leastLeading (taskCount t) l (priorityOf t)) lends-told
 
   for-told : (a : Awaited) → (λ i. begunFor (h .wait i) a) ≡ awaits t a
   for-told a = fun-ext (λ i. begun-for a (h .wait i) ∙ ap (λ w. waitIsFor w a) (A .wait i))
@@ -134,7 +158,7 @@ module _ {t : Tables} {h : Told} (A : Matches t h) where
     priorities = ap (λ l. l ++ (p ∷ [])) (A .priorities);
     kinds = A .kinds;
     owner = A .owner;
-    wait = λ i. A .wait i ∙ sym (snoc-default none (t .waits) i);
+    wait = λ i. A .wait i ∙ sym (snoc-default none (t .tasks .waits) i);
     order = A .order;
   }
 
@@ -143,7 +167,7 @@ module _ {t : Tables} {h : Told} (A : Matches t h) where
   matches-mutex q k = record {
     priorities = A .priorities;
     kinds = ap (λ l. l ++ (q ∷ [])) (A .kinds);
-    owner = λ m. A .owner m ∙ sym (snoc-default none (t .owners) m);
+    owner = λ m. A .owner m ∙ sym (snoc-default none (t .mutexes .owners) m);
     wait = A .wait;
     order = A .order;
   }
@@ -153,30 +177,30 @@ module _ {t : Tables} {h : Told} (A : Matches t h) where
   matches-beside r d b = record { priorities = A .priorities; kinds = A .kinds; owner = A .owner; wait = A .wait; order = A .order }
 
   -- of semaphores nothing is told
-  matches-sems : (c m : List ℕ) → Matches (withMaxima (withCounts t c) m) h
-  matches-sems c m = record { priorities = A .priorities; kinds = A .kinds; owner = A .owner; wait = A .wait; order = A .order }
+  matches-sems : (c : SemTable) → Matches (withSemaphores t c) h
+  matches-sems c = record { priorities = A .priorities; kinds = A .kinds; owner = A .owner; wait = A .wait; order = A .order }
 
-  matches-give : (m : ℕ) (o : Option ℕ) → m < mutexes t → Matches (give t m o) (toldOwner h m o)
+  matches-give : (m : ℕ) (o : Option ℕ) → m < mutexCount t → Matches (give t m o) (nowOwned h m o)
   matches-give m o low = record {
     priorities = A .priorities;
     kinds = A .kinds;
     owner = λ k. elim (ℕ-discrete k m) [
-      | yes e ↦ rw (e, eq-eqb m m refl) (sym (getD-set-same (t .owners) m o none low))
-      | no n ↦ rw (ne-eqb k m n) (A .owner k ∙ sym (getD-set-other (t .owners) m k o none n))
+      | yes e ↦ rw (e, eq-eqb m m refl) (sym (getD-set-same (t .mutexes .owners) m o none low))
+      | no n ↦ rw (ne-eqb k m n) (A .owner k ∙ sym (getD-set-other (t .mutexes .owners) m k o none n))
     ];
     wait = A .wait;
     order = A .order;
   }
 
-  matches-begin : (r : ℕ) (a : Awaited) (n : ℕ) → r < length (t .waits) → Matches (beginWait t r (waitFor a n)) (begins h a n (some r))
+  matches-begin : (r : ℕ) (a : Awaited) (n : ℕ) → r < length (t .tasks .waits) → Matches (beginWait t r (waitFor a n)) (begins h a n (some r))
   unfolding begins asWait ticksOf
   matches-begin r a n low = record {
     priorities = A .priorities;
     kinds = A .kinds;
     owner = A .owner;
     wait = λ i. elim (ℕ-discrete i r) [
-      | yes e ↦ rw (e, eq-eqb r r refl) (begun ∙ sym (getD-set-same (t .waits) r (some (waitFor a n)) none low))
-      | no q ↦ rw (ne-eqb i r q) (A .wait i ∙ sym (getD-set-other (t .waits) r i (some (waitFor a n)) none q))
+      | yes e ↦ rw (e, eq-eqb r r refl) (begun ∙ sym (getD-set-same (t .tasks .waits) r (some (waitFor a n)) none low))
+      | no q ↦ rw (ne-eqb i r q) (A .wait i ∙ sym (getD-set-other (t .tasks .waits) r i (some (waitFor a n)) none q))
     ];
     order = ap (λ l. l ++ (r ∷ [])) (A .order);
   }
@@ -205,7 +229,7 @@ module _ {t : Tables} {h : Told} (A : Matches t h) where
     wait = λ i. ap (λ b. asWait (cond b none (oneMore (h .wait i)))) (ap (λ f. f i) due-told)
         ∙ (by-test (λ (w : Option Begun). asWait w ≡ age (cond (due t i) none (waitOf t i))) (due t i)
         (λ e. rw e refl) (λ e. rw e (more-less (h .wait i) ∙ ap age (A .wait i)))
-        ∙ sym (List·getD-map age (putWhere (due t) (λ j. none) (t .waits)) i none ∙ ap age (wait-ended t (due t) out i)));
+        ∙ sym (List·getD-map age (putWhere (due t) (λ j. none) (t .tasks .waits)) i none ∙ ap age (wait-ended t (due t) out i)));
     order = ap (λ p. keep (λ i. not (p i)) (h .order)) due-told ∙ ap (keep (λ i. not (due t i))) (A .order);
   }
 
@@ -234,15 +258,12 @@ module _ (h : Told) where
   unfolding finish dispatch
   finish-named before e A d b = by-test Named (e .state .started) (λ q. meet-named (settle (levelOf before) (e .state) (e .woken)) A d b _ _) (λ q. placed-named (e .state) A d b _ _)
 
-abbrev pub eventOf : Step → Answer → Event
-eventOf x a = record { made = x; number = a .number; run = a .run }
-
 module _ (s : State) (h : Told) (I : Inv s) (A : Agrees s h) where
   abbrev AsTold : Step → Answer → Type 0
   AsTold x a = Agrees (a .state) (observe h (eventOf x a))
 
   -- a refused step names the running task again
-  again : (x : Step) (k v : ℕ) (r : Option ℕ) → 1 < k → r ≡ s .running → AsTold x (record { state = s; number = k; value = v; run = r })
+  again : (x : Step) (k v : ℕ) (r : Option ℕ) → 1 < k → r ≡ s .running → AsTold x (answerWith s k v r)
   unfolding observe
   again x k v r above e = rw (lt-leb k 1 above, e) (placed-named h s (A .tables) (A .depth) (A .started) (s .running) (s .ready))
 
@@ -261,17 +282,17 @@ module _ (s : State) (h : Told) (I : Inv s) (A : Agrees s h) where
   wait-told x a t r links run q = tells-by x (callerWaits s r a t links) (begins h a t (some r)) refl (q ∙ ap (begins h a t) (A .runs ∙ run))
       (matches-begin (A .tables) r a t (omega (arith, I .facts .wait-column, caller-in s I r run))) (A .depth) (A .started)
 
-  lock-told : (m t r : ℕ) (o : Option ℕ) → s .running ≡ some r → m < mutexes (s .tables) → After (lock m t) (lockBy s m t r o)
+  lock-told : (m t r : ℕ) (o : Option ℕ) → s .running ≡ some r → m < mutexCount (s .tables) → After (lock m t) (lockBy s m t r o)
   unfolding lockBy tells
-  lock-told m t r none run low = tells-by (lock m t) (lockBy s m t r none) (toldOwner h m (some r)) refl (ap (toldOwner h m) (A .runs ∙ run))
+  lock-told m t r none run low = tells-by (lock m t) (lockBy s m t r none) (nowOwned h m (some r)) refl (ap (nowOwned h m) (A .runs ∙ run))
       (matches-give (A .tables) m (some r) low) (A .depth) (A .started)
-  lock-told m t r (some o) run low = wait-told (lock m t) (mutexOf m) t r (linksOf (s .tables) r m) run refl
+  lock-told m t r (some o) run low = wait-told (lock m t) (mutexOf m) t r (linksOf (s .tables) r (mutexOf m)) run refl
 
-  unlock-told : (m : ℕ) (o : Option ℕ) → runnerOwns h m ≡ true → toldBest h (mutexOf m) ≡ o → m < mutexes (s .tables) → After (unlock m) (passOn s m o)
+  unlock-told : (m : ℕ) (o : Option ℕ) → runnerOwns h m ≡ true → toldBest h (mutexOf m) ≡ o → m < mutexCount (s .tables) → After (unlock m) (passOn s m o)
   unfolding passOn tells endsOf endsWhere
-  unlock-told m none own e low = tells-by (unlock m) (passOn s m none) (toldOwner h m none) refl (rw own (ap (handsOver h m) e))
+  unlock-told m none own e low = tells-by (unlock m) (passOn s m none) (nowOwned h m none) refl (rw own (ap (handsOver h m) e))
       (matches-give (A .tables) m none low) (A .depth) (A .started)
-  unlock-told m (some w) own e low = tells-by (unlock m) (passOn s m (some w)) (toldOwner (endsWhere h (eqb w)) m (some w)) refl (rw own (ap (handsOver h m) e))
+  unlock-told m (some w) own e low = tells-by (unlock m) (passOn s m (some w)) (nowOwned (endsWhere h (eqb w)) m (some w)) refl (rw own (ap (handsOver h m) e))
       (matches-give (matches-end (A .tables) (eqb w) (λ i. granted)) m (some w) low) (A .depth) (A .started)
 
   -- the caller that the rules see owns m as told
@@ -280,29 +301,29 @@ module _ (s : State) (h : Told) (I : Inv s) (A : Agrees s h) where
 
   post-told : (k : ℕ) (o : Option ℕ) → toldBest h (semOf k) ≡ o → After (post k) (credit s k o)
   unfolding credit tells endsOf endsWhere
-  post-told k none e = tells-by (post k) (credit s k none) h refl (ap (endsOf h) e) (matches-sems (A .tables) _ _) (A .depth) (A .started)
+  post-told k none e = tells-by (post k) (credit s k none) h refl (ap (endsOf h) e) (matches-sems (A .tables) _) (A .depth) (A .started)
   post-told k (some w) e = tells-by (post k) (credit s k (some w)) (endsWhere h (eqb w)) refl (ap (endsOf h) e)
       (matches-end (A .tables) (eqb w) (λ i. granted)) (A .depth) (A .started)
 
   pend-told : (k t r : ℕ) → s .running ≡ some r → After (pend k t) (pendBy s k t r)
   unfolding pendBy tells
   pend-told k t r run = by-test (After (pend k t)) (noCredit s k) (λ e. wait-told (pend k t) (semOf k) t r 0 run refl)
-      (λ e. tells-by (pend k t) (done (withTables s (setCount (s .tables) k (countOf (s .tables) k - 1))) [] 0) h refl refl (matches-sems (A .tables) _ _) (A .depth) (A .started))
+      (λ e. tells-by (pend k t) (done (withTables s (setCount (s .tables) k (countOf (s .tables) k - 1))) [] 0) h refl refl (matches-sems (A .tables) _) (A .depth) (A .started))
 
   accept-told : (x : Step) → firstRow (refusals s x) ≡ none → After x (effect s x)
   unfolding effect refusals tells flushOf tickOf yieldBy endsWhere ticked
   accept-told (task p) e = tells-by (task p) (effect s (task p)) (tells h (task p) 0) refl refl (matches-task (A .tables) p 0) (A .depth) (A .started)
   accept-told (mutex k) e = tells-by (mutex k) (effect s (mutex k)) (tells h (mutex k) 0) refl refl (matches-mutex (A .tables) k 0) (A .depth) (A .started)
-  accept-told (sem count max) e = tells-by (sem count max) (effect s (sem count max)) h refl refl (matches-sems (A .tables) _ _) (A .depth) (A .started)
+  accept-told (sem count max) e = tells-by (sem count max) (effect s (sem count max)) h refl refl (matches-sems (A .tables) _) (A .depth) (A .started)
   accept-told start e = tells-by start (effect s start) (tells h start 0) refl refl (matches-beside (A .tables) _ _ _) (A .depth) refl
   accept-told (lock m t) e =
       let b = passed _ _ (passed _ _ e .1) in
       let c = passed _ _ (b .1) in
-      called-by (After (lock m t)) s (s .running) _ (b .0) (λ r run. lock-told m t r (ownerOf (s .tables) m) run (leb-false (mutexes (s .tables)) m (c .0)))
+      called-by (After (lock m t)) s (s .running) _ (b .0) (λ r run. lock-told m t r (ownerOf (s .tables) m) run (leb-false (mutexCount (s .tables)) m (c .0)))
   accept-told (unlock m) e =
       let c = passed _ _ (passed _ _ (passed _ _ e .1) .1) in
       unlock-told m (bestWaiter (s .tables) (mutexOf m)) (owns-told m (passed _ _ (c .1) .0)) (best-told (A .tables) (I .facts) (mutexOf m))
-      (leb-false (mutexes (s .tables)) m (c .0))
+      (leb-false (mutexCount (s .tables)) m (c .0))
   accept-told (pend k t) e = called-by (After (pend k t)) s (s .running) _ (passed _ _ (passed _ _ e .1) .0) (pend-told k t)
   accept-told (post k) e = post-told k (bestWaiter (s .tables) (semOf k)) (best-told (A .tables) (I .facts) (semOf k))
   accept-told (flush k) e = tells-by (flush k) (flushOf s k) (endsWhere h (awaits (s .tables) (semOf k))) refl (ap (endsWhere h) (for-told (A .tables) (semOf k)))

@@ -16,10 +16,14 @@ pub record Answer : Type 0 where
   -- the task to run
   pub run : Option ℕ
 
+-- the one place where an answer is put together
+abbrev pub answerWith : State → ℕ → ℕ → Option ℕ → Answer
+answerWith s k v r = record { state = s; number = k; value = v; run = r }
+
 -- an answer that hands on the state s, whose running task is the one to run. With a refusal s is the state handed in: "Every number but 0
 -- and 1 leaves the state unchanged. The task to run is then the running one as it stands"
 abbrev pub answered : State → ℕ → ℕ → Answer
-answered s k v = record { state = s; number = k; value = v; run = s .running }
+answered s k v = answerWith s k v (s .running)
 
 -- the step on a sound state, by the first row of its refusals that applies
 unfoldable pub decide : State → Step → Option Row → Answer
@@ -34,7 +38,7 @@ unfoldable pub standing : State → Option ℕ
 standing s = cond (soundb s) (s .running) none
 
 abbrev pub stopped : State → ℕ → Answer
-stopped s k = record { state = s; number = k; value = 0; run = standing s }
+stopped s k = answerWith s k 0 (standing s)
 
 -- 15: "the state handed in isn't sound"
 unfoldable pub step : State → Step → Answer

@@ -1,4 +1,4 @@
--- Demand 3, as a statement: what holds after any list of calls from a fresh state with an accepted start. DemandLaws proves it. The quotes at
+-- Demand 3, as a statement: what holds after any list of calls from a sound state, a fresh one among them. DemandLaws proves it. The quotes at
 -- `MostUrgent`, `no-ring`, `runs` and `urgent` are the demand's own words, the others document 01's.
 use mathlib.Core.Path.{_≡_}
 use mathlib.Core.List.{List, [], _∷_}
@@ -6,21 +6,22 @@ use mathlib.Core.Bool.{true}
 use mathlib.Core.Logic.{_⊎_}
 use mathlib.Core.Option.{Option, none, some}
 use Prim.Native.Nat.{ℕ, _≤_, _<_}
-use lib.ListN.{length, getD}
-use Rattle.rules.specs.Sizes.{inheriting}
+use lib.ListN.{length}
+use Rattle.rules.specs.Sizes.{forever}
+use Rattle.rules.specs.Tables.{Wait, waitOf, ownerOf}
 use Rattle.rules.specs.State.{State, fresh}
-use Rattle.rules.specs.Step.{level}
+use Rattle.rules.specs.Step.{Step, level}
 use Rattle.rules.specs.Answer.{Answer}
 use Rattle.rules.specs.Log.{logLine, Call, call}
-use Rattle.rules.specs.History.{Event, Told, tasksMade, ownPriority, begunMutex, told}
+use Rattle.rules.specs.History.{Event, Begun, Told, tasksMade, ownPriority, toldOwner, toldHeir, toldFrom, told}
 
--- i waits for a mutex that j owns, mutexes of every kind
+-- i waits for what j owns: for a mutex, of whatever kind
 abbrev pub WaitsFor : Told → ℕ → ℕ → Type 0
-WaitsFor h i j = (m : ℕ) × (begunMutex (h .wait i) ≡ some m) × (h .owner m ≡ some j)
+WaitsFor h i j = (b : Begun) × (h .wait i ≡ some b) × (toldOwner h (b .on) ≡ some j)
 
 -- i waits for an inheriting mutex that j owns
 abbrev pub LendsTo : Told → ℕ → ℕ → Type 0
-LendsTo h i j = (m : ℕ) × (begunMutex (h .wait i) ≡ some m) × (getD (h .kinds) m 0 ≡ inheriting) × (h .owner m ≡ some j)
+LendsTo h i j = (b : Begun) × (h .wait i ≡ some b) × (toldHeir h (b .on) ≡ some j)
 
 -- "A task's chain of waits on inheriting mutexes leads to the owner of the inheriting mutex for which it waits, and to all tasks to which
 -- that owner's such chain leads."
@@ -64,22 +65,50 @@ pub record Demand (h : Told) (answer : Call → Answer) : Type 0 where
       → ((answer (levelCall i room)) .number ≡ 0) × MostUrgent h i ((answer (levelCall i room)) .value)
   -- "no waits form a ring"
   pub no-ring : (x : ℕ) (l : List ℕ) → Ring h x l → ⊥
-  -- "a task runs whenever one is ready"
-  pub runs : (i : ℕ) → Ready h i → (r : ℕ) × (h .runs ≡ some r)
+  -- "a task runs whenever one is ready": one that was made
+  pub runs : (i : ℕ) → Ready h i → (r : ℕ) × (r < tasksMade h) × (h .runs ≡ some r)
   -- "unless scheduling is held, no ready task is more urgent than the running one"
-  pub urgent : h .depth ≡ 0 → (i r : ℕ) → Ready h i → h .runs ≡ some r → (answer (levelCall r none)) .value ≤ (answer (levelCall i none)) .value
+  pub urgent : h .depth ≡ 0 → (i r : ℕ) → Ready h i → h .runs ≡ some r
+      → (r < tasksMade h) × ((answer (levelCall r none)) .value ≤ (answer (levelCall i none)) .value)
+
+-- the event of a call, from its answer
+abbrev pub eventOf : Step → Answer → Event
+eventOf x a = record { made = x; number = a .number; run = a .run }
 
 -- the events of a list of calls, and the state handed on at its end
 unfoldable pub events : State → List Call → List Event
 events s [] = []
-events s (c ∷ cs) =
-    let a = call s c in
-    record { made = c .made; number = a .number; run = a .run } ∷ events (a .state) cs
+events s (c ∷ cs) = eventOf (c .made) (call s c) ∷ events ((call s c) .state) cs
 
 unfoldable pub after : State → List Call → State
 after s [] = s
 after s (c ∷ cs) = after ((call s c) .state) cs
 
--- the theorem: over every list of calls from a fresh state with an accepted start
+-- what a state tells before the first step. A wait with n ticks left stands as one that begins now with time n.
+unfoldable pub timeIn : Option ℕ → ℕ
+timeIn none = forever
+timeIn (some n) = n
+
+unfoldable pub begunIn : Option Wait → Option Begun
+begunIn none = none
+begunIn (some w) = some (record { on = w .on; time = timeIn (w .left); ticks = 0 })
+
+unfoldable pub toldIn : State → Told
+toldIn s = record {
+  priorities = s .tables .tasks .priorities;
+  kinds = s .tables .mutexes .kinds;
+  owner = ownerOf (s .tables);
+  wait = λ i. begunIn (waitOf (s .tables) i);
+  order = s .tables .tasks .waiting;
+  runs = s .running;
+  depth = s .hold;
+  started = s .started;
+}
+
+-- the theorem: over every list of calls from any sound state, where the state is started or the list has an accepted start
+abbrev pub Demand-3-from : State → Type 0
+Demand-3-from s = (cs : List Call) → (toldFrom (toldIn s) (events s cs)) .started ≡ true → Demand (toldFrom (toldIn s) (events s cs)) (call (after s cs))
+
+-- and from a fresh state, which tells nothing
 abbrev pub Demand-3 : Type 0
 Demand-3 = (cs : List Call) → (told (events fresh cs)) .started ≡ true → Demand (told (events fresh cs)) (call (after fresh cs))

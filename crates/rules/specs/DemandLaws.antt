@@ -6,18 +6,15 @@ use mathlib.Core.Logic.{_⊎_, inl, inr}
 use mathlib.Core.Option.{Option, none, some}
 use Prim.Native.Nat.{ℕ, _≤_, _<_}
 use native.Mathlib.Omega.{arith}
-use lib.Dec.{eqb}
-use lib.ListN.{length, getD}
-use borrow.Author.Tests.{eqb-true, le-leb, lt-leb, eq-eqb}
+use lib.ListN.{length}
+use borrow.Author.Tests.{le-leb, lt-leb}
 use Rattle.lists.specs.Count.{occ}
-use Rattle.lists.specs.TestLaws.{which, by-test, none-some, some-same}
+use Rattle.lists.specs.TestLaws.{by-test, none-some, some-same}
 use Rattle.lists.specs.CountLaws.{occ-opt-other, below-in}
 use Rattle.chains.specs.Chain.{From, here, on, Ended}
 use Rattle.chains.specs.ChainLaws.{no-ring, from-some}
 use Rattle.chains.specs.LeastLaws.{leading-low, leading-att}
-use Rattle.rules.specs.Sizes.{inheriting}
-use Rattle.rules.specs.Tables.{tasks}
-use Rattle.rules.specs.Levels.{andThen}
+use Rattle.rules.specs.Tables.{Awaited, taskCount}
 use Rattle.rules.specs.State.{State, fresh, levelOf}
 use Rattle.rules.specs.Step.{level}
 use Rattle.rules.specs.Effect.{done, effect}
@@ -29,11 +26,11 @@ use Rattle.rules.specs.Log.{logLine, withRoom, Call, inRoom, call}
 use Rattle.rules.specs.Invariant.{Started, Inv}
 use Rattle.rules.specs.LevelLaws.{lends-ended}
 use Rattle.rules.specs.StepLaws.{caller-in, step-inv, fresh-inv}
-use Rattle.rules.specs.SoundLaws.{inv-sound}
-use Rattle.rules.specs.History.{Told, nothingTold, tasksMade, ownPriority, begunMutex, toldNext, toldHeir, toldLends, toldLevel, observe, toldFrom, told}
-use Rattle.rules.specs.Demand.{WaitsFor, LendsTo, Leads, to-owner, through, WaitRow, Ready, MostUrgent, levelCall, HasRoom, Demand, events, after, Demand-3}
+use Rattle.rules.specs.SoundLaws.{sound-inv, inv-sound}
+use Rattle.rules.specs.History.{Begun, Told, tasksMade, ownPriority, toldOwner, toldHeir, ofBegun, toldNext, toldLends, toldLevel, observe, toldFrom, told}
+use Rattle.rules.specs.Demand.{WaitsFor, LendsTo, Leads, to-owner, through, WaitRow, Ready, MostUrgent, levelCall, HasRoom, Demand, eventOf, events, after, toldIn, Demand-3-from, Demand-3}
 use Rattle.rules.specs.RefusalLaws.{call-by}
-use Rattle.rules.specs.AgreeLaws.{asWait, Agrees, fresh-agrees, next-told, lends-told, level-told, eventOf, call-agrees}
+use Rattle.rules.specs.AgreeLaws.{asWait, Agrees, tells-agrees, fresh-tells, next-told, lends-told, level-told, call-agrees}
 
 -- a call keeps a sound state sound
 pub call-inv : (s : State) → Inv s → (c : Call) → Inv ((call s c) .state)
@@ -41,29 +38,31 @@ unfolding step
 call-inv s I c = call-by (λ a. Inv (a .state)) s c (by-test (λ (a : Answer). Inv (a .state)) (soundb s) (λ e. step-inv s I (c .made)) (λ e. I)) I
 
 -- whom a wait leads to, in the words of demand 3 and as the next on a chain
-then-to : (o : Option ℕ) (f : ℕ → Option ℕ) (m j : ℕ) → o ≡ some m → f m ≡ some j → andThen o f ≡ some j
-unfolding andThen
-then-to o f m j e q = rw e q
+module _ (w : Option Begun) (f : Awaited → Option ℕ) (j : ℕ) where
+  begun-to : (b : Begun) → w ≡ some b → f (b .on) ≡ some j → ofBegun f w ≡ some j
+  unfolding ofBegun
+  begun-to b e q = rw e q
+
+  to-begun : ofBegun f w ≡ some j → (b : Begun) × (w ≡ some b) × (f (b .on) ≡ some j)
+  unfolding ofBegun
+  to-begun e = go w refl e
+    where
+      go : (v : Option Begun) → w ≡ v → ofBegun f v ≡ some j → (b : Begun) × (w ≡ some b) × (f (b .on) ≡ some j)
+      go none q e = none-some refl e
+      go (some b) q e = (b, q, e)
 
 module _ (h : Told) where
   waits-next : (i j : ℕ) → WaitsFor h i j → toldNext h i ≡ some j
   unfolding toldNext
-  waits-next i j w = then-to (begunMutex (h .wait i)) (h .owner) (w .0) j (w .1) (w .2)
+  waits-next i j w = begun-to (h .wait i) (toldOwner h) j (w .0) (w .1) (w .2)
 
   lends-next : (i j : ℕ) → LendsTo h i j → toldLends h i ≡ some j
   unfolding toldLends
-  lends-next i j w = then-to (begunMutex (h .wait i)) _ (w .0) j (w .1) (rw (eq-eqb (getD (h .kinds) (w .0) 0) inheriting (w .2)) (w .3))
+  lends-next i j w = begun-to (h .wait i) (toldHeir h) j (w .0) (w .1) (w .2)
 
   next-lends : (i j : ℕ) → toldLends h i ≡ some j → LendsTo h i j
-  unfolding toldLends andThen
-  next-lends i j e = go (begunMutex (h .wait i)) refl e
-    where
-      go : (o : Option ℕ) → begunMutex (h .wait i) ≡ o → andThen o (toldHeir h) ≡ some j → LendsTo h i j
-      go none q e = none-some refl e
-      go (some m) q e = elim (which (eqb (getD (h .kinds) m 0) inheriting)) [
-        | inl t ↦ (m, q, eqb-true (getD (h .kinds) m 0) inheriting t, rw t at e)
-        | inr t ↦ none-some refl (rw t at e)
-      ]
+  unfolding toldLends
+  next-lends i j e = to-begun (h .wait i) (toldHeir h) j e
 
   leads-from : {j i : ℕ} → Leads h j i → From (toldLends h) (some j) i
   leads-from (to-owner {i = j} {j = i} l) = on {i = j} {k = i} (rw (lends-next j i l) here)
@@ -81,12 +80,12 @@ module _ (h : Told) where
   row-from x (z ∷ l) y w = rw (waits-next x z (w .0)) (on {i = z} {k = y} (row-from z l y (w .1)))
 
 -- `level` is accepted for a task of a sound state, and its value is the level
-level-answer : (s : State) → Inv s → (i : ℕ) → i < tasks (s .tables) → step s (level i) ≡ answered (finish s (done s [] (levelOf s i))) 0 (levelOf s i)
+level-answer : (s : State) → Inv s → (i : ℕ) → i < taskCount (s .tables) → step s (level i) ≡ answered (finish s (done s [] (levelOf s i))) 0 (levelOf s i)
 unfolding step stepSound decide refusals firstRow effect
-level-answer s I i h = rw (inv-sound s I, lt-leb (tasks (s .tables)) i h) refl
+level-answer s I i h = rw (inv-sound s I, lt-leb (taskCount (s .tables)) i h) refl
 
 module _ (s : State) (h : Told) (I : Inv s) (A : Agrees s h) where
-  as-many : tasksMade h ≡ tasks (s .tables)
+  as-many : tasksMade h ≡ taskCount (s .tables)
   as-many = ap length (A .tables .priorities)
 
   level-call : (i : ℕ) → i < tasksMade h → (room : Option ℕ) → HasRoom room (call s (levelCall i none))
@@ -107,7 +106,7 @@ module _ (s : State) (h : Told) (I : Inv s) (A : Agrees s h) where
   }
     where
       chains : Ended (tasksMade h) (toldLends h)
-      chains = subst (λ n. Ended n (toldLends h)) (sym as-many) (subst (Ended (tasks (s .tables))) (sym (lends-told (A .tables))) (lends-ended (s .tables) (I .facts)))
+      chains = subst (λ n. Ended n (toldLends h)) (sym as-many) (subst (Ended (taskCount (s .tables))) (sym (lends-told (A .tables))) (lends-ended (s .tables) (I .facts)))
 
   -- a task that neither runs nor waits stands in the ready order
   ready-in : (i : ℕ) → Ready h i → 1 ≤ occ i (s .ready)
@@ -115,7 +114,7 @@ module _ (s : State) (h : Told) (I : Inv s) (A : Agrees s h) where
   ready-in i r = omega (
     arith,
     I .places i,
-    below-in i (tasks (s .tables)) (omega (arith, as-many, r .exists)),
+    below-in i (taskCount (s .tables)) (omega (arith, as-many, r .exists)),
     I .facts .waiting i,
     ap waitCount (sym (A .tables .wait i) ∙ ap asWait (r .not-waiting)),
     occ-opt-other (s .running) i (λ e. r .not-running (A .runs ∙ e)),
@@ -126,17 +125,17 @@ module _ (s : State) (h : Told) (I : Inv s) (A : Agrees s h) where
     levels = λ i low room fits. subst (λ a. (a .number ≡ 0) × MostUrgent h i (a .value)) (sym (level-call i low room fits))
         (refl, subst (MostUrgent h i) (ap (λ f. f i) (level-told (A .tables))) (most-urgent i low));
     no-ring = λ x l w. no-ring (I .facts .ends x .1) (subst (λ f. From f (f x) x) (next-told (A .tables)) (row-from h x l x w));
-    runs = λ i r. (let k = S .runs i (ready-in i r) in (k .0, A .runs ∙ k .1));
-    urgent = λ z i r q e. omega (
-      arith,
-      S .urgent (sym (A .depth) ∙ z) i r (ready-in i q) (sym (A .runs) ∙ e),
-      value i (q .exists),
-      value r (omega (arith, as-many, caller-in s I r (sym (A .runs) ∙ e))),
-    );
+    runs = λ i r. (let k = S .runs i (ready-in i r) in (k .0, made (k .0) (k .1), A .runs ∙ k .1));
+    urgent = λ z i r q e.
+        let m = made r (sym (A .runs) ∙ e) in
+        (m, omega (arith, S .urgent (sym (A .depth) ∙ z) i r (ready-in i q) (sym (A .runs) ∙ e), value i (q .exists), value r m));
   }
     where
       S : Started s
       S = I .when-started (sym (A .started) ∙ began)
+
+      made : (r : ℕ) → s .running ≡ some r → r < tasksMade h
+      made r e = omega (arith, as-many, caller-in s I r e)
 
       value : (i : ℕ) → i < tasksMade h → (call s (levelCall i none)) .value ≡ levelOf s i
       value i low = ap (λ a. a .value) (level-call i low none tt)
@@ -147,7 +146,15 @@ unfolding after events toldFrom
 list-sound [] s h I A = (I, A)
 list-sound (c ∷ cs) s h I A = list-sound cs ((call s c) .state) (observe h (eventOf (c .made) (call s c))) (call-inv s I c) (call-agrees s h I A c)
 
--- demand 3, over every list of calls from a fresh state with an accepted start
+-- demand 3, over every list of calls from any sound state
+pub demand-3-from : (s : State) → soundb s ≡ true → Demand-3-from s
+demand-3-from s e cs =
+    let I = sound-inv s e in
+    let r = list-sound cs s (toldIn s) I (tells-agrees s I) in
+    demand (after s cs) (toldFrom (toldIn s) (events s cs)) (r .0) (r .1)
+
+-- and from a fresh state with an accepted start
 pub demand-3 : Demand-3
 unfolding told
-demand-3 cs = let r = list-sound cs fresh nothingTold fresh-inv fresh-agrees in demand (after fresh cs) (told (events fresh cs)) (r .0) (r .1)
+demand-3 = subst (λ h. (cs : List Call) → (toldFrom h (events fresh cs)) .started ≡ true → Demand (toldFrom h (events fresh cs)) (call (after fresh cs)))
+    fresh-tells (demand-3-from fresh (inv-sound fresh fresh-inv))

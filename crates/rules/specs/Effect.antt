@@ -9,7 +9,7 @@ use Rattle.lists.specs.Test.{holds}
 use Rattle.lists.specs.Order.{keep}
 use Rattle.lists.specs.Table.{putWhere}
 use Rattle.rules.specs.Sizes.{wordSize, forever, granted, pending, timedOut, flushed}
-use Rattle.rules.specs.Tables.{Awaited, mutexOf, semOf, time, Wait, Tables, withPriorities, withOutcomes, withWaits, withWaiting, withKinds, withOwners, withCounts, withMaxima, tasks, mutexes, semaphores, outcomeOf, waitOf, ownerOf, countOf}
+use Rattle.rules.specs.Tables.{Awaited, mutexOf, semOf, time, isSleep, Wait, Tables, withTasks, withMutexes, withSemaphores, taskCount, mutexCount, semCount, outcomeOf, waitOf, ownerOf, countOf}
 use Rattle.rules.specs.Levels.{linksOf, awaits, bestWaiter}
 use Rattle.rules.specs.State.{State, withTables, withStarted, withClock, withHold, placed, levelOf}
 use Rattle.rules.specs.Step.{Step, task, mutex, sem, start, lock, unlock, pend, post, flush, sleep, yield, hold, free, tick, level, outcome}
@@ -24,34 +24,49 @@ pub record Effect : Type 0 where
 abbrev pub done : State → List ℕ → ℕ → Effect
 done s woken value = record { state = s; woken = woken; number = 0; value = value }
 
--- creation: one more place in each column
+-- creation: one more place in each column of a table
 abbrev pub addTask : Tables → ℕ → Tables
-addTask t p = withOutcomes (withWaits (withPriorities t (t .priorities ++ (p ∷ []))) (t .waits ++ (none ∷ []))) (t .outcomes ++ (granted ∷ []))
+addTask t p = withTasks t (record {
+  priorities = t .tasks .priorities ++ (p ∷ []);
+  outcomes = t .tasks .outcomes ++ (granted ∷ []);
+  waits = t .tasks .waits ++ (none ∷ []);
+  waiting = t .tasks .waiting;
+})
 
 abbrev pub addMutex : Tables → ℕ → Tables
-addMutex t k = withOwners (withKinds t (t .kinds ++ (k ∷ []))) (t .owners ++ (none ∷ []))
+addMutex t k = withMutexes t (record { kinds = t .mutexes .kinds ++ (k ∷ []); owners = t .mutexes .owners ++ (none ∷ []) })
 
 abbrev pub addSem : Tables → ℕ → ℕ → Tables
-addSem t count max = withMaxima (withCounts t (t .counts ++ (count ∷ []))) (t .maxima ++ (max ∷ []))
+addSem t count max = withSemaphores t (record { counts = t .semaphores .counts ++ (count ∷ []); maxima = t .semaphores .maxima ++ (max ∷ []) })
 
 -- m becomes o's, or free
 abbrev pub give : Tables → ℕ → Option ℕ → Tables
-give t m o = withOwners t (set (t .owners) m o)
+give t m o = withMutexes t (record { kinds = t .mutexes .kinds; owners = set (t .mutexes .owners) m o })
 
 abbrev pub setCount : Tables → ℕ → ℕ → Tables
-setCount t k n = withCounts t (set (t .counts) k n)
+setCount t k n = withSemaphores t (record { counts = set (t .semaphores .counts) k n; maxima = t .semaphores .maxima })
 
 -- "A task that begins to wait gets outcome 1."
 abbrev pub beginWait : Tables → ℕ → Wait → Tables
-beginWait t r w = withOutcomes (withWaiting (withWaits t (set (t .waits) r (some w))) (t .waiting ++ (r ∷ []))) (set (t .outcomes) r pending)
+beginWait t r w = withTasks t (record {
+  priorities = t .tasks .priorities;
+  outcomes = set (t .tasks .outcomes) r pending;
+  waits = set (t .tasks .waits) r (some w);
+  waiting = t .tasks .waiting ++ (r ∷ []);
+})
 
 -- the waits of the tasks that pass the test end, each with its outcome
 abbrev pub endWaits : Tables → (ℕ → Bool) → (ℕ → ℕ) → Tables
-endWaits t p out = withOutcomes (withWaiting (withWaits t (putWhere p (λ i. none) (t .waits))) (keep (λ i. not (p i)) (t .waiting))) (putWhere p out (t .outcomes))
+endWaits t p out = withTasks t (record {
+  priorities = t .tasks .priorities;
+  outcomes = putWhere p out (t .tasks .outcomes);
+  waits = putWhere p (λ i. none) (t .tasks .waits);
+  waiting = keep (λ i. not (p i)) (t .tasks .waiting);
+})
 
 -- who becomes ready when those waits end
 abbrev pub ended : Tables → (ℕ → Bool) → List ℕ
-ended t p = keep p (t .waiting)
+ended t p = keep p (t .tasks .waiting)
 
 -- the ticks left of a wait begun with time t
 unfoldable pub ticksOf : ℕ → Option ℕ
@@ -72,7 +87,7 @@ callerWaits s r a t links = record {
 -- "lock m t: a free mutex becomes the caller's. Else the caller waits."
 unfoldable pub lockBy : State → ℕ → ℕ → ℕ → Option ℕ → Effect
 lockBy s m t r none = done (withTables s (give (s .tables) m (some r))) [] 0
-lockBy s m t r (some o) = callerWaits s r (mutexOf m) t (linksOf (s .tables) r m)
+lockBy s m t r (some o) = callerWaits s r (mutexOf m) t (linksOf (s .tables) r (mutexOf m))
 
 -- "unlock m: ownership passes to the best waiter, which becomes ready with outcome 0, or the mutex becomes free."
 unfoldable pub passOn : State → ℕ → Option ℕ → Effect
@@ -102,9 +117,7 @@ due t i = isDue (waitOf t i)
 
 -- "outcome 20, or 0 for a sleep"
 unfoldable pub expiry : Awaited → ℕ
-expiry (mutexOf m) = timedOut
-expiry (semOf k) = timedOut
-expiry time = granted
+expiry a = cond (isSleep a) granted timedOut
 
 unfoldable pub outcomeDue : Option Wait → ℕ
 outcomeDue none = granted
@@ -120,7 +133,12 @@ age none = none
 age (some w) = some (record { on = w .on; left = lessOne (w .left) })
 
 abbrev pub ageAll : Tables → Tables
-ageAll t = withWaits t (map age (t .waits))
+ageAll t = withTasks t (record {
+  priorities = t .tasks .priorities;
+  outcomes = t .tasks .outcomes;
+  waits = map age (t .tasks .waits);
+  waiting = t .tasks .waiting;
+})
 
 -- "tick: clock plus one. Each wait begun with time t ends at the t-th tick after it"
 unfoldable pub tickOf : State → Effect
@@ -139,9 +157,9 @@ called s none f = done s [] 0
 called s (some r) f = f r
 
 unfoldable pub effect : State → Step → Effect
-effect s (task p) = done (withTables s (addTask (s .tables) p)) (tasks (s .tables) ∷ []) (tasks (s .tables))
-effect s (mutex k) = done (withTables s (addMutex (s .tables) k)) [] (mutexes (s .tables))
-effect s (sem count max) = done (withTables s (addSem (s .tables) count max)) [] (semaphores (s .tables))
+effect s (task p) = done (withTables s (addTask (s .tables) p)) (taskCount (s .tables) ∷ []) (taskCount (s .tables))
+effect s (mutex k) = done (withTables s (addMutex (s .tables) k)) [] (mutexCount (s .tables))
+effect s (sem count max) = done (withTables s (addSem (s .tables) count max)) [] (semCount (s .tables))
 effect s start = done (withStarted s true) [] 0
 effect s (lock m t) = called s (s .running) (λ r. lockBy s m t r (ownerOf (s .tables) m))
 effect s (unlock m) = passOn s m (bestWaiter (s .tables) (mutexOf m))

@@ -12,36 +12,42 @@ use lib.Seq.{getD-set-same, getD-set-other}
 use borrow.Author.Tests.{ltb-false, eqb-false}
 use Rattle.lists.specs.Test.{holds}
 use Rattle.lists.specs.Count.{occ}
-use Rattle.lists.specs.TestLaws.{which, by-test, none-some, some-same}
+use Rattle.lists.specs.TestLaws.{which, clash, by-test, none-some, some-same}
 use Rattle.lists.specs.CountLaws.{eqn-at, eqn-other, occ-append}
 use Rattle.lists.specs.OrderLaws.{occ-kept, occ-dropped}
 use Rattle.lists.specs.TableLaws.{length-edit, getD-edit, getD-edit-default}
 use Rattle.chains.specs.Chain.{Ends, walk, Ended}
 use Rattle.chains.specs.ChainLaws.{walk-is-chain, ends-change, ends-wait, ends-pass, ends-drop}
 use Rattle.rules.specs.Sizes.{pending}
-use Rattle.rules.specs.Tables.{Awaited, mutexOf, semOf, time, Wait, Tables, tasks, mutexes, semaphores, outcomeOf, waitOf, ownerOf, countOf, maximumOf}
-use Rattle.rules.specs.Levels.{mutexIn, mutexAwaited, andThen, next, chainOf, closesRing, sameAwaited, waitIsFor, awaits}
+use Rattle.rules.specs.Tables.{Awaited, mutexOf, semOf, time, Wait, Tables, taskCount, mutexCount, semCount, outcomeOf, waitOf, ownerOf, countOf, maximumOf}
+use Rattle.rules.specs.Levels.{ownerAwaited, ofWait, next, chainOf, closesRing, sameAwaited, waitIsFor, awaits}
 use Rattle.rules.specs.Effect.{give, setCount, beginWait, endWaits, isDue, due, lessOne, age, ageAll}
 use Rattle.rules.specs.Sound.{waitCount}
 use Rattle.rules.specs.Invariant.{Unavailable, Blocked, Left, Timed, Outcome, Facts}
-use Rattle.rules.specs.LevelLaws.{next-ended}
+use Rattle.rules.specs.LevelLaws.{next-none, awaited-owner, next-ended}
+use Rattle.rules.specs.WaiterLaws.{awaited-self}
 
 -- who waits for whom, and that every chain ends, stays as it is where waits and owners stay
-then-ext : (q : Option ℕ) (f g : ℕ → Option ℕ) → ((m : ℕ) → f m ≡ g m) → andThen q f ≡ andThen q g
-unfolding andThen
-then-ext none f g h = refl
-then-ext (some m) f g h = h m
+owner-same : (t t′ : Tables) → ((m : ℕ) → ownerOf t′ m ≡ ownerOf t m) → (a : Awaited) → ownerAwaited t′ a ≡ ownerAwaited t a
+unfolding ownerAwaited
+owner-same t t′ h (mutexOf m) = h m
+owner-same t t′ h (semOf k) = refl
+owner-same t t′ h time = refl
 
 pub next-same : (t t′ : Tables) (x : ℕ) → waitOf t′ x ≡ waitOf t x → ((m : ℕ) → ownerOf t′ m ≡ ownerOf t m) → next t′ x ≡ next t x
-unfolding next
-next-same t t′ x e h = rw e (then-ext (mutexAwaited (waitOf t x)) (ownerOf t′) (ownerOf t) h)
+unfolding next ofWait
+next-same t t′ x e h = rw e (go (waitOf t x))
+  where
+    go : (w : Option Wait) → ofWait (ownerAwaited t′) w ≡ ofWait (ownerAwaited t) w
+    go none = refl
+    go (some w) = owner-same t t′ h (w .on)
 
 pub ends-same : (t t′ : Tables) → ((x : ℕ) → next t′ x ≡ next t x) → ((i : ℕ) → Ends (next t) (some i)) → (i : ℕ) → Ends (next t′) (some i)
 ends-same t t′ h E i = ends-change (λ x. inl (h x)) (E i .1)
 
 -- what a task waits for stays unavailable where owned mutexes stay owned and counts at 0 stay at 0
 pub still : (t t′ : Tables) → ((m o : ℕ) → ownerOf t m ≡ some o → (o′ : ℕ) × (ownerOf t′ m ≡ some o′))
-    → ((k : ℕ) → k < semaphores t → countOf t k ≡ 0 → (k < semaphores t′) × (countOf t′ k ≡ 0)) → (w : Option Wait) → Blocked t w → Blocked t′ w
+    → ((k : ℕ) → k < semCount t → countOf t k ≡ 0 → (k < semCount t′) × (countOf t′ k ≡ 0)) → (w : Option Wait) → Blocked t w → Blocked t′ w
 still t t′ f g none b = tt
 still t t′ f g (some w) b = go (w .on) b
   where
@@ -51,26 +57,26 @@ still t t′ f g (some w) b = go (w .on) b
     go time u = tt
 
 -- who does not wait for the semaphore k stays blocked where only k changes
-away : (t t′ : Tables) → ((m : ℕ) → ownerOf t′ m ≡ ownerOf t m) → (k : ℕ) → ((j : ℕ) → (j ≡ k → ⊥) → j < semaphores t → (j < semaphores t′) × (countOf t′ j ≡ countOf t j))
+away : (t t′ : Tables) → ((m : ℕ) → ownerOf t′ m ≡ ownerOf t m) → (k : ℕ) → ((j : ℕ) → (j ≡ k → ⊥) → j < semCount t → (j < semCount t′) × (countOf t′ j ≡ countOf t j))
     → (w : Option Wait) → waitIsFor w (semOf k) ≡ false → Blocked t w → Blocked t′ w
-unfolding waitIsFor sameAwaited
+unfolding waitIsFor
 away t t′ f k g none e b = tt
 away t t′ f k g (some w) e b = go (w .on) e b
   where
     go : (a : Awaited) → sameAwaited a (semOf k) ≡ false → Unavailable t a → Unavailable t′ a
     go (mutexOf m) q u = (u .0, f m ∙ u .1)
-    go (semOf j) q u = let r = g j (eqb-false j k q) (u .0) in (r .0, r .1 ∙ u .1)
+    go (semOf j) q u = let r = g j (λ e. clash (ap (λ z. sameAwaited (semOf z) (semOf k)) e ∙ awaited-self (semOf k)) q) (u .0) in (r .0, r .1 ∙ u .1)
     go time q u = tt
 
 -- m gets another owner, or none: what is left to show is of those who wait, of the owners and of the chains
 module _ (t : Tables) (m : ℕ) (o : Option ℕ) where
-  same-length : length (set (t .owners) m o) ≡ mutexes t
-  same-length = length-set (t .owners) m o
+  same-length : length (set (t .mutexes .owners) m o) ≡ mutexCount t
+  same-length = length-set (t .mutexes .owners) m o
 
   owner-other : (k : ℕ) → (k ≡ m → ⊥) → ownerOf (give t m o) k ≡ ownerOf t k
-  owner-other k n = getD-set-other (t .owners) m k o none n
+  owner-other k n = getD-set-other (t .mutexes .owners) m k o none n
 
-  facts-owner : ((i : ℕ) → Blocked (give t m o) (waitOf t i)) → ((k r : ℕ) → ownerOf (give t m o) k ≡ some r → r < tasks t)
+  facts-owner : ((i : ℕ) → Blocked (give t m o) (waitOf t i)) → ((k r : ℕ) → ownerOf (give t m o) k ≡ some r → r < taskCount t)
       → ((i : ℕ) → Ends (next (give t m o)) (some i)) → Facts t → Facts (give t m o)
   facts-owner blocks owned chains F = record {
     wait-column = F .wait-column;
@@ -92,68 +98,87 @@ module _ (t : Tables) (m : ℕ) (o : Option ℕ) where
   }
 
 -- m becomes o's, who waits for nothing; others may wait for m
-pub facts-give : (t : Tables) (m o : ℕ) → m < mutexes t → o < tasks t → waitOf t o ≡ none → Facts t → Facts (give t m (some o))
-unfolding next andThen mutexAwaited
+pub facts-give : (t : Tables) (m o : ℕ) → m < mutexCount t → o < taskCount t → waitOf t o ≡ none → Facts t → Facts (give t m (some o))
+unfolding next ofWait ownerAwaited
 facts-give t m o h low idle F = facts-owner t m (some o)
-    (λ i. still t (give t m (some o)) (λ k r e. elim (ℕ-discrete k m) [ yes p ↦ (o, rw p at-m) | no n ↦ (r, other k n ∙ e) ]) (λ k q e. (q, e)) (waitOf t i) (F .blocked i))
+    (λ i. still t new (λ k r e. elim (ℕ-discrete k m) [ yes p ↦ (o, rw p at-m) | no n ↦ (r, other k n ∙ e) ]) (λ k q e. (q, e)) (waitOf t i) (F .blocked i))
     (λ k r e. elim (ℕ-discrete k m) [
       | yes p ↦ omega (arith, some-same (sym at-m ∙ rw p at e))
       | no n ↦ F .owners k r (sym (other k n) ∙ e)
     ])
-    (λ i. ends-pass o (rw idle refl) (λ x. each (mutexAwaited (waitOf t x))) (F .ends i .1))
+    (λ i. ends-pass o (rw idle refl) (λ x. each (waitOf t x)) (F .ends i .1))
     F
   where
-    at-m : ownerOf (give t m (some o)) m ≡ some o
-    at-m = getD-set-same (t .owners) m (some o) none h
+    new : Tables
+    new = give t m (some o)
 
-    other : (k : ℕ) → (k ≡ m → ⊥) → ownerOf (give t m (some o)) k ≡ ownerOf t k
+    at-m : ownerOf new m ≡ some o
+    at-m = getD-set-same (t .mutexes .owners) m (some o) none h
+
+    other : (k : ℕ) → (k ≡ m → ⊥) → ownerOf new k ≡ ownerOf t k
     other = owner-other t m (some o)
 
-    each : (q : Option ℕ) → (andThen q (ownerOf (give t m (some o))) ≡ andThen q (ownerOf t)) ⊎ (andThen q (ownerOf (give t m (some o))) ≡ some o)
+    owned : (a : Awaited) → (ownerAwaited new a ≡ ownerAwaited t a) ⊎ (ownerAwaited new a ≡ some o)
+    owned (mutexOf k) = elim (ℕ-discrete k m) [ yes p ↦ inr (rw p at-m) | no n ↦ inl (other k n) ]
+    owned (semOf k) = inl refl
+    owned time = inl refl
+
+    each : (w : Option Wait) → (ofWait (ownerAwaited new) w ≡ ofWait (ownerAwaited t) w) ⊎ (ofWait (ownerAwaited new) w ≡ some o)
     each none = inl refl
-    each (some k) = elim (ℕ-discrete k m) [ yes p ↦ inr (rw p at-m) | no n ↦ inl (other k n) ]
+    each (some w) = owned (w .on)
 
 -- m, for which nobody waits, becomes free
-pub facts-free : (t : Tables) (m : ℕ) → ((i : ℕ) → mutexAwaited (waitOf t i) ≡ some m → ⊥) → Facts t → Facts (give t m none)
-unfolding next andThen mutexAwaited mutexIn
+pub facts-free : (t : Tables) (m : ℕ) → ((i : ℕ) → awaits t (mutexOf m) i ≡ false) → Facts t → Facts (give t m none)
+unfolding next ofWait waitIsFor ownerAwaited
 facts-free t m nobody F = facts-owner t m none
     (λ i. kept (waitOf t i) (nobody i) (F .blocked i))
     (λ k r e. elim (ℕ-discrete k m) [
       | yes p ↦ none-some (freed k p) e
       | no n ↦ F .owners k r (sym (other k n) ∙ e)
     ])
-    (ends-same t (give t m none) (λ x. each (mutexAwaited (waitOf t x)) (nobody x)) (F .ends))
+    (ends-same t new (λ x. each (waitOf t x) (nobody x)) (F .ends))
     F
   where
-    other : (k : ℕ) → (k ≡ m → ⊥) → ownerOf (give t m none) k ≡ ownerOf t k
+    new : Tables
+    new = give t m none
+
+    other : (k : ℕ) → (k ≡ m → ⊥) → ownerOf new k ≡ ownerOf t k
     other = owner-other t m none
 
-    freed : (k : ℕ) → k ≡ m → ownerOf (give t m none) k ≡ none
-    freed k p = elim (decLt m (mutexes t)) [
-      | yes h ↦ rw p (getD-set-same (t .owners) m none none h)
-      | no h ↦ List·getD-eq-default (set (t .owners) m none) none (omega (arith, same-length t m none))
+    freed : (k : ℕ) → k ≡ m → ownerOf new k ≡ none
+    freed k p = elim (decLt m (mutexCount t)) [
+      | yes h ↦ rw p (getD-set-same (t .mutexes .owners) m none none h)
+      | no h ↦ List·getD-eq-default (set (t .mutexes .owners) m none) none (omega (arith, same-length t m none))
     ]
 
-    each : (q : Option ℕ) → (q ≡ some m → ⊥) → andThen q (ownerOf (give t m none)) ≡ andThen q (ownerOf t)
-    each none n = refl
-    each (some k) n = other k (λ e. n (ap some e))
+    elsewhere : (k : ℕ) → sameAwaited (mutexOf k) (mutexOf m) ≡ false → ownerOf new k ≡ ownerOf t k
+    elsewhere k e = other k (λ q. clash (ap (λ z. sameAwaited (mutexOf z) (mutexOf m)) q ∙ awaited-self (mutexOf m)) e)
 
-    kept : (w : Option Wait) → (mutexAwaited w ≡ some m → ⊥) → Blocked t w → Blocked (give t m none) w
-    kept none n b = tt
-    kept (some w) n b = go (w .on) n b
+    owned : (a : Awaited) → sameAwaited a (mutexOf m) ≡ false → ownerAwaited new a ≡ ownerAwaited t a
+    owned (mutexOf k) e = elsewhere k e
+    owned (semOf k) e = refl
+    owned time e = refl
+
+    each : (w : Option Wait) → waitIsFor w (mutexOf m) ≡ false → ofWait (ownerAwaited new) w ≡ ofWait (ownerAwaited t) w
+    each none e = refl
+    each (some w) e = owned (w .on) e
+
+    kept : (w : Option Wait) → waitIsFor w (mutexOf m) ≡ false → Blocked t w → Blocked new w
+    kept none e b = tt
+    kept (some w) e b = go (w .on) e b
       where
-        go : (a : Awaited) → (mutexIn a ≡ some m → ⊥) → Unavailable t a → Unavailable (give t m none) a
-        go (mutexOf k) n u = (u .0, other k (λ e. n (ap some e)) ∙ u .1)
-        go (semOf k) n u = u
-        go time n u = tt
+        go : (a : Awaited) → sameAwaited a (mutexOf m) ≡ false → Unavailable t a → Unavailable new a
+        go (mutexOf k) e u = (u .0, elsewhere k e ∙ u .1)
+        go (semOf k) e u = u
+        go time e u = tt
 
 -- r, which waits for nothing, begins to wait for what it cannot have, and no ring closes
-pub facts-begin : (t : Tables) (r : ℕ) (w : Wait) → r < tasks t → waitOf t r ≡ none → Unavailable t (w .on) → Left (w .on) (w .left)
-    → ((m : ℕ) → w .on ≡ mutexOf m → closesRing t r m ≡ false) → Facts t → Facts (beginWait t r w)
-unfolding next andThen mutexAwaited mutexIn chainOf occ waitCount
+pub facts-begin : (t : Tables) (r : ℕ) (w : Wait) → r < taskCount t → waitOf t r ≡ none → Unavailable t (w .on) → Left (w .on) (w .left)
+    → closesRing t r (w .on) ≡ false → Facts t → Facts (beginWait t r w)
+unfolding next ofWait chainOf occ waitCount
 facts-begin t r w h idle un left clear F = record {
-  wait-column = omega (arith, F .wait-column, length-set (t .waits) r (some w));
-  outcome-column = omega (arith, F .outcome-column, length-set (t .outcomes) r pending);
+  wait-column = omega (arith, F .wait-column, length-set (t .tasks .waits) r (some w));
+  outcome-column = omega (arith, F .outcome-column, length-set (t .tasks .outcomes) r pending);
   kind-column = F .kind-column;
   maximum-column = F .maximum-column;
   few-tasks = F .few-tasks;
@@ -162,17 +187,17 @@ facts-begin t r w h idle un left clear F = record {
   priorities = F .priorities;
   kinds-in = F .kinds-in;
   waiting = λ i. elim (ℕ-discrete i r) [
-    | yes p ↦ rw (p, at-r) (omega (arith, F .waiting r, ap waitCount idle, occ-append r (t .waiting) (r ∷ []), eqn-at r r refl))
-    | no n ↦ rw (other i n) (omega (arith, F .waiting i, occ-append i (t .waiting) (r ∷ []), eqn-other r i (λ q. n (sym q))))
+    | yes p ↦ rw (p, at-r) (omega (arith, F .waiting r, ap waitCount idle, occ-append r (t .tasks .waiting) (r ∷ []), eqn-at r r refl))
+    | no n ↦ rw (other i n) (omega (arith, F .waiting i, occ-append i (t .tasks .waiting) (r ∷ []), eqn-other r i (λ q. n (sym q))))
   ];
   blocked = λ i. elim (ℕ-discrete i r) [ yes p ↦ rw (p, at-r) (begun (w .on) un) | no n ↦ rw (other i n) (still t new (λ m o e. (o, e)) (λ k q e. (q, e)) (waitOf t i) (F .blocked i)) ];
   timed = λ i. elim (ℕ-discrete i r) [ yes p ↦ rw (p, at-r) left | no n ↦ rw (other i n) (F .timed i) ];
   owners = F .owners;
-  ends = chains (w .on) refl un;
+  ends = chains (ownerAwaited t (w .on)) refl;
   counts = F .counts;
   outcomes = λ i q. elim (ℕ-discrete i r) [
-    | yes p ↦ rw (p, at-r) (getD-set-same (t .outcomes) r pending 0 (omega (arith, F .outcome-column)))
-    | no n ↦ rw (other i n, getD-set-other (t .outcomes) r i pending 0 n) (F .outcomes i q)
+    | yes p ↦ rw (p, at-r) (getD-set-same (t .tasks .outcomes) r pending 0 (omega (arith, F .outcome-column)))
+    | no n ↦ rw (other i n, getD-set-other (t .tasks .outcomes) r i pending 0 n) (F .outcomes i q)
   ];
 }
   where
@@ -180,41 +205,41 @@ facts-begin t r w h idle un left clear F = record {
     new = beginWait t r w
 
     at-r : waitOf new r ≡ some w
-    at-r = getD-set-same (t .waits) r (some w) none (omega (arith, F .wait-column))
+    at-r = getD-set-same (t .tasks .waits) r (some w) none (omega (arith, F .wait-column))
 
     other : (x : ℕ) → (x ≡ r → ⊥) → waitOf new x ≡ waitOf t x
-    other x n = getD-set-other (t .waits) r x (some w) none n
+    other x n = getD-set-other (t .tasks .waits) r x (some w) none n
 
     begun : (a : Awaited) → Unavailable t a → Unavailable new a
     begun (mutexOf m) u = u
     begun (semOf k) u = u
     begun time u = tt
 
+    owned : ownerAwaited new (w .on) ≡ ownerAwaited t (w .on)
+    owned = owner-same t new (λ m. refl) (w .on)
+
     next-other : (x : ℕ) → (x ≡ r → ⊥) → next new x ≡ next t x
-    next-other x n = rw (other x n) refl
+    next-other x n = next-same t new x (other x n) (λ m. refl)
 
-    nobody : mutexIn (w .on) ≡ none → (i : ℕ) → Ends (next new) (some i)
-    nobody e i = ends-drop (λ x. elim (ℕ-discrete x r) [ yes p ↦ inr (rw (p, at-r, e) refl) | no n ↦ inl (next-other x n) ]) (F .ends i .1)
-
-    chains : (a : Awaited) → w .on ≡ a → Unavailable t a → (i : ℕ) → Ends (next new) (some i)
-    chains (mutexOf m) e u i = ends-wait r (u .0) (rw (at-r, e) (u .1)) next-other (walk-is-chain ended (some (u .0)) (λ j q. omega (arith, some-same q, F .owners m (u .0) (u .1))))
-        (omega (arith, ltb-false 0 (occ r (walk (tasks t) (next t) (ownerOf t m))) (clear m e), ap (λ o. occ r (walk (tasks t) (next t) o)) (u .1))) (F .ends i .1)
+    -- r waits for what nobody owns, or for what the task o owns, whose chain does not come to r
+    chains : (q : Option ℕ) → ownerAwaited t (w .on) ≡ q → (i : ℕ) → Ends (next new) (some i)
+    chains none e i = ends-drop (λ x. elim (ℕ-discrete x r) [ yes p ↦ inr (rw (p, at-r) (owned ∙ e)) | no n ↦ inl (next-other x n) ]) (F .ends i .1)
+    chains (some o) e i = ends-wait r o (rw at-r (owned ∙ e)) next-other (walk-is-chain ended (some o) (λ j q. omega (arith, some-same q, awaited-owner t F (w .on) o e)))
+        (omega (arith, ltb-false 0 (occ r (walk (taskCount t) (next t) (ownerAwaited t (w .on)))) clear, ap (λ q. occ r (walk (taskCount t) (next t) q)) e)) (F .ends i .1)
       where
-        ended : Ended (tasks t) (next t)
+        ended : Ended (taskCount t) (next t)
         ended = next-ended t F
-    chains (semOf k) e u i = nobody (rw e refl) i
-    chains time e u i = nobody (rw e refl) i
 
 -- who waits after some waits ended
 pub wait-ended : (t : Tables) (p : ℕ → Bool) (out : ℕ → ℕ) (i : ℕ) → waitOf (endWaits t p out) i ≡ cond (p i) none (waitOf t i)
-wait-ended t p out i = getD-edit-default (λ j x. cond (p j) none x) none (t .waits) i (λ j. by-test (λ (z : Option Wait). z ≡ none) (p j) (λ e. refl) (λ e. refl))
+wait-ended t p out i = getD-edit-default (λ j x. cond (p j) none x) none (t .tasks .waits) i (λ j. by-test (λ (z : Option Wait). z ≡ none) (p j) (λ e. refl) (λ e. refl))
 
 -- some waits end
 pub facts-end : (t : Tables) (p : ℕ → Bool) (out : ℕ → ℕ) → ((i : ℕ) → p i ≡ true → Outcome none (out i)) → Facts t → Facts (endWaits t p out)
-unfolding next andThen mutexAwaited waitCount
+unfolding waitCount
 facts-end t p out good F = record {
-  wait-column = length-edit (λ i x. cond (p i) none x) (t .waits) ∙ F .wait-column;
-  outcome-column = length-edit (λ i x. cond (p i) (out i) x) (t .outcomes) ∙ F .outcome-column;
+  wait-column = length-edit (λ i x. cond (p i) none x) (t .tasks .waits) ∙ F .wait-column;
+  outcome-column = length-edit (λ i x. cond (p i) (out i) x) (t .tasks .outcomes) ∙ F .outcome-column;
   kind-column = F .kind-column;
   maximum-column = F .maximum-column;
   few-tasks = F .few-tasks;
@@ -223,13 +248,13 @@ facts-end t p out good F = record {
   priorities = F .priorities;
   kinds-in = F .kinds-in;
   waiting = λ i. elim (which (p i)) [
-    | inl e ↦ rw (gone i e) (occ-dropped (λ j. not (p j)) i (t .waiting) (rw e refl))
-    | inr e ↦ rw (stays i e) (occ-kept (λ j. not (p j)) i (t .waiting) (rw e refl) ∙ F .waiting i)
+    | inl e ↦ rw (gone i e) (occ-dropped (λ j. not (p j)) i (t .tasks .waiting) (rw e refl))
+    | inr e ↦ rw (stays i e) (occ-kept (λ j. not (p j)) i (t .tasks .waiting) (rw e refl) ∙ F .waiting i)
   ];
   blocked = λ i. elim (which (p i)) [ inl e ↦ rw (gone i e) tt | inr e ↦ rw (stays i e) (still t new (λ m o q. (o, q)) (λ k h q. (h, q)) (waitOf t i) (F .blocked i)) ];
   timed = λ i. elim (which (p i)) [ inl e ↦ rw (gone i e) tt | inr e ↦ rw (stays i e) (F .timed i) ];
   owners = F .owners;
-  ends = λ i. ends-drop (λ x. elim (which (p x)) [ inl e ↦ inr (rw (gone x e) refl) | inr e ↦ inl (rw (stays x e) refl) ]) (F .ends i .1);
+  ends = λ i. ends-drop (λ x. elim (which (p x)) [ inl e ↦ inr (next-none new x (gone x e)) | inr e ↦ inl (next-same t new x (stays x e) (λ m. refl)) ]) (F .ends i .1);
   counts = F .counts;
   outcomes = λ i h. elim (which (p i)) [
     | inl e ↦ rw (gone i e, outcome-at i h, e) (good i e)
@@ -246,8 +271,8 @@ facts-end t p out good F = record {
     stays : (i : ℕ) → p i ≡ false → waitOf new i ≡ waitOf t i
     stays i e = wait-ended t p out i ∙ rw e refl
 
-    outcome-at : (i : ℕ) → i < tasks t → outcomeOf new i ≡ cond (p i) (out i) (outcomeOf t i)
-    outcome-at i h = getD-edit (λ j x. cond (p j) (out j) x) 0 (t .outcomes) i (omega (arith, F .outcome-column))
+    outcome-at : (i : ℕ) → i < taskCount t → outcomeOf new i ≡ cond (p i) (out i) (outcomeOf t i)
+    outcome-at i h = getD-edit (λ j x. cond (p j) (out j) x) 0 (t .tasks .outcomes) i (omega (arith, F .outcome-column))
 
 -- a semaphore for which nobody waits gets another count
 pub facts-count : (t : Tables) (k n : ℕ) → ((i : ℕ) → awaits t (semOf k) i ≡ false) → n ≤ maximumOf t k → Facts t → Facts (setCount t k n)
@@ -262,25 +287,25 @@ facts-count t k n nobody low F = record {
   priorities = F .priorities;
   kinds-in = F .kinds-in;
   waiting = F .waiting;
-  blocked = λ i. away t (setCount t k n) (λ m. refl) k (λ j q h. (omega (arith, same-length), getD-set-other (t .counts) k j n 0 q)) (waitOf t i) (nobody i) (F .blocked i);
+  blocked = λ i. away t (setCount t k n) (λ m. refl) k (λ j q h. (omega (arith, same-length), getD-set-other (t .semaphores .counts) k j n 0 q)) (waitOf t i) (nobody i) (F .blocked i);
   timed = F .timed;
   owners = F .owners;
   ends = ends-same t (setCount t k n) (λ x. next-same t (setCount t k n) x refl (λ m. refl)) (F .ends);
   counts = λ j h. elim (ℕ-discrete j k) [
-    | yes p ↦ rw (p, getD-set-same (t .counts) k n 0 (omega (arith, same-length))) (low, F .counts k (omega (arith, same-length)) .1)
-    | no q ↦ rw (getD-set-other (t .counts) k j n 0 q) (F .counts j (omega (arith, same-length)))
+    | yes p ↦ rw (p, getD-set-same (t .semaphores .counts) k n 0 (omega (arith, same-length))) (low, F .counts k (omega (arith, same-length)) .1)
+    | no q ↦ rw (getD-set-other (t .semaphores .counts) k j n 0 q) (F .counts j (omega (arith, same-length)))
   ];
   outcomes = F .outcomes;
 }
   where
-    same-length : length (set (t .counts) k n) ≡ semaphores t
-    same-length = length-set (t .counts) k n
+    same-length : length (set (t .semaphores .counts) k n) ≡ semCount t
+    same-length = length-set (t .semaphores .counts) k n
 
 -- a tick less for every wait, where none is due
 pub facts-age : (t : Tables) → ((i : ℕ) → due t i ≡ false) → Facts t → Facts (ageAll t)
-unfolding next age waitCount mutexAwaited lessOne holds isDue
+unfolding next ofWait age waitCount lessOne holds isDue
 facts-age t later F = record {
-  wait-column = length-map (t .waits) age ∙ F .wait-column;
+  wait-column = length-map (t .tasks .waits) age ∙ F .wait-column;
   outcome-column = F .outcome-column;
   kind-column = F .kind-column;
   maximum-column = F .maximum-column;
@@ -293,21 +318,21 @@ facts-age t later F = record {
   blocked = λ i. rw (aged i) (age-blocked (waitOf t i) (F .blocked i));
   timed = λ i. rw (aged i) (age-timed (waitOf t i) (later i) (F .timed i));
   owners = F .owners;
-  ends = ends-same t (ageAll t) (λ x. rw (aged x, age-mutex (waitOf t x)) refl) (F .ends);
+  ends = ends-same t (ageAll t) (λ x. rw (aged x) (age-owner (waitOf t x))) (F .ends);
   counts = F .counts;
   outcomes = λ i h. rw (aged i) (age-outcome (waitOf t i) (outcomeOf t i) (F .outcomes i h));
 }
   where
     aged : (i : ℕ) → waitOf (ageAll t) i ≡ age (waitOf t i)
-    aged i = List·getD-map age (t .waits) i none
+    aged i = List·getD-map age (t .tasks .waits) i none
 
     age-count : (w : Option Wait) → waitCount w ≡ waitCount (age w)
     age-count none = refl
     age-count (some w) = refl
 
-    age-mutex : (w : Option Wait) → mutexAwaited (age w) ≡ mutexAwaited w
-    age-mutex none = refl
-    age-mutex (some w) = refl
+    age-owner : (w : Option Wait) → ofWait (ownerAwaited (ageAll t)) (age w) ≡ ofWait (ownerAwaited t) w
+    age-owner none = refl
+    age-owner (some w) = owner-same t (ageAll t) (λ m. refl) (w .on)
 
     age-blocked : (w : Option Wait) → Blocked t w → Blocked (ageAll t) (age w)
     age-blocked none b = tt
@@ -323,12 +348,8 @@ facts-age t later F = record {
     age-outcome (some w) n o = o
 
     age-left : (a : Awaited) (l : Option ℕ) → holds l 1 ≡ false → Left a l → Left a (lessOne l)
-    age-left (mutexOf m) none e h = tt
-    age-left (semOf k) none e h = tt
-    age-left time none e h = h
-    age-left (mutexOf m) (some n) e h = (omega (arith, eqb-false n 1 e), omega arith)
-    age-left (semOf k) (some n) e h = (omega (arith, eqb-false n 1 e), omega arith)
-    age-left time (some n) e h = (omega (arith, eqb-false n 1 e), omega arith)
+    age-left a none e h = h
+    age-left a (some n) e h = (omega (arith, eqb-false n 1 e), omega arith)
 
     age-timed : (w : Option Wait) → isDue w ≡ false → Timed w → Timed (age w)
     age-timed none e h = tt

@@ -10,7 +10,7 @@ use Rattle.lists.specs.Order.{keep, leastFirst}
 use Rattle.chains.specs.Least.{leastLeading}
 use Rattle.rules.specs.Sizes.{inheriting, forever}
 use Rattle.rules.specs.Tables.{Awaited, mutexOf, semOf, time}
-use Rattle.rules.specs.Levels.{mutexIn, andThen, sameAwaited}
+use Rattle.rules.specs.Levels.{sameAwaited}
 use Rattle.rules.specs.Step.{Step, task, mutex, sem, start, lock, unlock, pend, post, flush, sleep, yield, hold, free, tick, level, outcome}
 use Rattle.rules.specs.Refusal.{ofCaller}
 
@@ -55,21 +55,28 @@ tasksMade h = length (h .priorities)
 abbrev pub ownPriority : Told → ℕ → ℕ
 ownPriority h i = getD (h .priorities) i 0
 
-unfoldable pub begunMutex : Option Begun → Option ℕ
-begunMutex none = none
-begunMutex (some b) = mutexIn (b .on)
+-- the owner of what is awaited, as told
+unfoldable pub toldOwner : Told → Awaited → Option ℕ
+toldOwner h (mutexOf m) = h .owner m
+toldOwner h (semOf k) = none
+toldOwner h time = none
 
--- the owner of the mutex for which i waits
+-- who is lent the level of a task that waits for it, as told: the owner of an inheriting mutex
+unfoldable pub toldHeir : Told → Awaited → Option ℕ
+toldHeir h (mutexOf m) = cond (eqb (getD (h .kinds) m 0) inheriting) (h .owner m) none
+toldHeir h (semOf k) = none
+toldHeir h time = none
+
+unfoldable pub ofBegun : (Awaited → Option ℕ) → Option Begun → Option ℕ
+ofBegun f none = none
+ofBegun f (some b) = f (b .on)
+
+-- the owner of what i waits for, and who is lent its level
 unfoldable pub toldNext : Told → ℕ → Option ℕ
-toldNext h i = andThen (begunMutex (h .wait i)) (h .owner)
+toldNext h i = ofBegun (toldOwner h) (h .wait i)
 
--- m's owner, where m is inheriting
-abbrev pub toldHeir : Told → ℕ → Option ℕ
-toldHeir h m = cond (eqb (getD (h .kinds) m 0) inheriting) (h .owner m) none
-
--- the owner of the inheriting mutex for which i waits
 unfoldable pub toldLends : Told → ℕ → Option ℕ
-toldLends h i = andThen (begunMutex (h .wait i)) (toldHeir h)
+toldLends h i = ofBegun (toldHeir h) (h .wait i)
 
 -- the level as the history defines it
 unfoldable pub toldLevel : Told → ℕ → ℕ
@@ -90,8 +97,8 @@ at k x f i = cond (eqb i k) x (f i)
 abbrev pub toldWaits : Told → (ℕ → Option Begun) → List ℕ → Told
 toldWaits h w l = record { priorities = h .priorities; kinds = h .kinds; owner = h .owner; wait = w; order = l; runs = h .runs; depth = h .depth; started = h .started }
 
-abbrev pub toldOwner : Told → ℕ → Option ℕ → Told
-toldOwner h m o = record { priorities = h .priorities; kinds = h .kinds; owner = at m o (h .owner); wait = h .wait; order = h .order; runs = h .runs; depth = h .depth; started = h .started }
+abbrev pub nowOwned : Told → ℕ → Option ℕ → Told
+nowOwned h m o = record { priorities = h .priorities; kinds = h .kinds; owner = at m o (h .owner); wait = h .wait; order = h .order; runs = h .runs; depth = h .depth; started = h .started }
 
 -- the task that ran begins to wait
 unfoldable pub begins : Told → Awaited → ℕ → Option ℕ → Told
@@ -124,7 +131,7 @@ runnerOwns h m = ofCaller (h .runs) (holds (h .owner m))
 
 -- m goes to the best waiter, whose wait ends, or to nobody
 abbrev pub handsOver : Told → ℕ → Option ℕ → Told
-handsOver h m w = toldOwner (endsOf h w) m w
+handsOver h m w = nowOwned (endsOf h w) m w
 
 -- what an accepted step tells, by its answer's number
 unfoldable pub tells : Told → Step → ℕ → Told
@@ -132,7 +139,7 @@ tells h (task p) k = record { priorities = h .priorities ++ (p ∷ []); kinds = 
 tells h (mutex q) k = record { priorities = h .priorities; kinds = h .kinds ++ (q ∷ []); owner = h .owner; wait = h .wait; order = h .order; runs = h .runs; depth = h .depth; started = h .started }
 tells h (sem count max) k = h
 tells h start k = record { priorities = h .priorities; kinds = h .kinds; owner = h .owner; wait = h .wait; order = h .order; runs = h .runs; depth = h .depth; started = true }
-tells h (lock m t) k = cond (eqb k 1) (begins h (mutexOf m) t (h .runs)) (toldOwner h m (h .runs))
+tells h (lock m t) k = cond (eqb k 1) (begins h (mutexOf m) t (h .runs)) (nowOwned h m (h .runs))
 tells h (unlock m) k = cond (runnerOwns h m) (handsOver h m (toldBest h (mutexOf m))) h
 tells h (pend j t) k = cond (eqb k 1) (begins h (semOf j) t (h .runs)) h
 tells h (post j) k = endsOf h (toldBest h (semOf j))

@@ -10,7 +10,7 @@ use Rattle.lists.specs.Count.{occ, below, opt}
 use Rattle.lists.specs.Order.{Asc, Ties}
 use Rattle.chains.specs.Chain.{Ends}
 use Rattle.rules.specs.Sizes.{maxTasks, maxMutexes, maxSemaphores, levels, kinds, wordSize, maxHold, maxTicks, granted, pending, timedOut, flushed}
-use Rattle.rules.specs.Tables.{Awaited, mutexOf, semOf, time, Wait, Tables, tasks, mutexes, semaphores, priorityOf, outcomeOf, waitOf, kindOf, ownerOf, countOf, maximumOf}
+use Rattle.rules.specs.Tables.{Awaited, mutexOf, semOf, time, isSleep, Wait, Tables, taskCount, mutexCount, semCount, priorityOf, outcomeOf, waitOf, kindOf, ownerOf, countOf, maximumOf}
 use Rattle.rules.specs.Levels.{next}
 use Rattle.rules.specs.State.{State, levelOf}
 use Rattle.rules.specs.Sound.{waitCount}
@@ -18,7 +18,7 @@ use Rattle.rules.specs.Sound.{waitCount}
 -- "an existing object that isn't available to it (mutex owned, semaphore at 0) or for time"
 abbrev pub Unavailable : Tables → Awaited → Type 0
 Unavailable t (mutexOf m) = (o : ℕ) × (ownerOf t m ≡ some o)
-Unavailable t (semOf k) = (k < semaphores t) × (countOf t k ≡ 0)
+Unavailable t (semOf k) = (k < semCount t) × (countOf t k ≡ 0)
 Unavailable t time = Unit
 
 abbrev pub Blocked : Tables → Option Wait → Type 0
@@ -27,12 +27,8 @@ Blocked t (some w) = Unavailable t (w .on)
 
 -- "1 to 2147483647 ticks left and each sleep is timed"
 abbrev pub Left : Awaited → Option ℕ → Type 0
-Left (mutexOf m) none = Unit
-Left (semOf k) none = Unit
-Left time none = ⊥
-Left (mutexOf m) (some n) = (1 ≤ n) × (n ≤ maxTicks)
-Left (semOf k) (some n) = (1 ≤ n) × (n ≤ maxTicks)
-Left time (some n) = (1 ≤ n) × (n ≤ maxTicks)
+Left a none = isSleep a ≡ false
+Left a (some n) = (1 ≤ n) × (n ≤ maxTicks)
 
 abbrev pub Timed : Option Wait → Type 0
 Timed none = Unit
@@ -45,31 +41,31 @@ Outcome (some w) n = n ≡ pending
 
 -- what holds of the tables in every phase
 pub record Facts (t : Tables) : Type 0 where
-  pub wait-column : length (t .waits) ≡ tasks t
-  pub outcome-column : length (t .outcomes) ≡ tasks t
-  pub kind-column : length (t .kinds) ≡ mutexes t
-  pub maximum-column : length (t .maxima) ≡ semaphores t
+  pub wait-column : length (t .tasks .waits) ≡ taskCount t
+  pub outcome-column : length (t .tasks .outcomes) ≡ taskCount t
+  pub kind-column : length (t .mutexes .kinds) ≡ mutexCount t
+  pub maximum-column : length (t .semaphores .maxima) ≡ semCount t
   -- "Numbers within the ranges above"
-  pub few-tasks : tasks t ≤ maxTasks
-  pub few-mutexes : mutexes t ≤ maxMutexes
-  pub few-semaphores : semaphores t ≤ maxSemaphores
-  pub priorities : (i : ℕ) → i < tasks t → priorityOf t i < levels
-  pub kinds-in : (m : ℕ) → m < mutexes t → kindOf t m < kinds
+  pub few-tasks : taskCount t ≤ maxTasks
+  pub few-mutexes : mutexCount t ≤ maxMutexes
+  pub few-semaphores : semCount t ≤ maxSemaphores
+  pub priorities : (i : ℕ) → i < taskCount t → priorityOf t i < levels
+  pub kinds-in : (m : ℕ) → m < mutexCount t → kindOf t m < kinds
   -- who waits stands once in the order of waits, and nobody else
-  pub waiting : (i : ℕ) → occ i (t .waiting) ≡ waitCount (waitOf t i)
+  pub waiting : (i : ℕ) → occ i (t .tasks .waiting) ≡ waitCount (waitOf t i)
   pub blocked : (i : ℕ) → Blocked t (waitOf t i)
   pub timed : (i : ℕ) → Timed (waitOf t i)
   -- "owners exist"
-  pub owners : (m o : ℕ) → ownerOf t m ≡ some o → o < tasks t
+  pub owners : (m o : ℕ) → ownerOf t m ≡ some o → o < taskCount t
   -- "no ring of waits"
   pub ends : (i : ℕ) → Ends (next t) (some i)
   -- "counts at most their maximum, maximum at least 1"
-  pub counts : (k : ℕ) → k < semaphores t → (countOf t k ≤ maximumOf t k) × (1 ≤ maximumOf t k)
-  pub outcomes : (i : ℕ) → i < tasks t → Outcome (waitOf t i) (outcomeOf t i)
+  pub counts : (k : ℕ) → k < semCount t → (countOf t k ≤ maximumOf t k) × (1 ≤ maximumOf t k)
+  pub outcomes : (i : ℕ) → i < taskCount t → Outcome (waitOf t i) (outcomeOf t i)
 
 -- each task in exactly one of woken (ready, but not yet in the ready order), ready, waiting, running
 abbrev pub Places : State → List ℕ → Type 0
-Places s woken = (i : ℕ) → occ i woken + (occ i (s .ready) + (occ i (s .tables .waiting) + occ i (opt (s .running)))) ≡ below i (tasks (s .tables))
+Places s woken = (i : ℕ) → occ i woken + (occ i (s .ready) + (occ i (s .tables .tasks .waiting) + occ i (opt (s .running)))) ≡ below i (taskCount (s .tables))
 
 -- "once started, a task runs if any is ready"
 abbrev pub Runs : State → Type 0
@@ -88,7 +84,7 @@ pub record SetUp (s : State) : Type 0 where
   pub clock-0 : s .clock ≡ 0
   pub hold-0 : s .hold ≡ 0
   pub idle : s .running ≡ none
-  pub nobody-waits : (i : ℕ) → occ i (s .tables .waiting) ≡ 0
+  pub nobody-waits : (i : ℕ) → occ i (s .tables .tasks .waiting) ≡ 0
   pub nothing-owned : (m : ℕ) → ownerOf (s .tables) m ≡ none
   pub outcomes-0 : (i : ℕ) → outcomeOf (s .tables) i ≡ granted
   pub by-id : Ties (levelOf s) (s .ready)

@@ -14,7 +14,7 @@ use Rattle.lists.specs.Test.{_and_}
 use Rattle.lists.specs.TestLaws.{which, clash, by-test, none-some}
 use Rattle.lists.specs.TableLaws.{snoc-default, getD-edit}
 use Rattle.rules.specs.Sizes.{granted, pending, flushed}
-use Rattle.rules.specs.Tables.{Awaited, mutexOf, semOf, time, Wait, Tables, tasks, outcomeOf, waitOf, ownerOf}
+use Rattle.rules.specs.Tables.{Awaited, mutexOf, semOf, time, Wait, Tables, taskCount, outcomeOf, waitOf, ownerOf}
 use Rattle.rules.specs.Levels.{awaits, bestWaiter}
 use Rattle.rules.specs.State.{State, levelOf}
 use Rattle.rules.specs.Step.{Step, task, mutex, sem, start, lock, unlock, pend, post, flush, sleep, yield, hold, free, tick, level, outcome}
@@ -44,23 +44,23 @@ finish-tables s e = by-test (λ (z : State). z .tables ≡ e .state .tables) (e 
 -- the outcome of a task i where waits begin or end
 module _ (t : Tables) (F : Facts t) (i : ℕ) where
   -- r begins to wait: where i does not wait after that, it is not r and has the outcome it had
-  begin-stays : (r : ℕ) (w : Wait) → r < tasks t → waitOf (beginWait t r w) i ≡ none → outcomeOf (beginWait t r w) i ≡ outcomeOf t i
+  begin-stays : (r : ℕ) (w : Wait) → r < taskCount t → waitOf (beginWait t r w) i ≡ none → outcomeOf (beginWait t r w) i ≡ outcomeOf t i
   begin-stays r w low after = elim (ℕ-discrete i r) [
-    | yes e ↦ none-some {m = w} after (rw e (getD-set-same (t .waits) r (some w) none (omega (arith, F .wait-column))))
-    | no n ↦ getD-set-other (t .outcomes) r i pending 0 n
+    | yes e ↦ none-some {m = w} after (rw e (getD-set-same (t .tasks .waits) r (some w) none (omega (arith, F .wait-column))))
+    | no n ↦ getD-set-other (t .tasks .outcomes) r i pending 0 n
   ]
 
   -- some waits end: where i did not wait, its wait is none of them and it has the outcome it had
-  end-stays : (p : ℕ → Bool) (out : ℕ → ℕ) → i < tasks t → (p i ≡ true → waitCount (waitOf t i) ≡ 1) → waitOf t i ≡ none
+  end-stays : (p : ℕ → Bool) (out : ℕ → ℕ) → i < taskCount t → (p i ≡ true → waitCount (waitOf t i) ≡ 1) → waitOf t i ≡ none
       → outcomeOf (endWaits t p out) i ≡ outcomeOf t i
   unfolding waitCount
-  end-stays p out h waits idle = getD-edit (λ j x. cond (p j) (out j) x) 0 (t .outcomes) i (omega (arith, F .outcome-column)) ∙ elim (which (p i)) [
+  end-stays p out h waits idle = getD-edit (λ j x. cond (p j) (out j) x) 0 (t .tasks .outcomes) i (omega (arith, F .outcome-column)) ∙ elim (which (p i)) [
     | inl e ↦ absurd (omega (arith, waits e, ap waitCount idle))
     | inr e ↦ rw e refl
   ]
 
 -- an accepted step, and a task i that does not wait before it
-module _ (s : State) (I : Inv s) (i : ℕ) (h : i < tasks (s .tables)) (idle : waitOf (s .tables) i ≡ none) where
+module _ (s : State) (I : Inv s) (i : ℕ) (h : i < taskCount (s .tables)) (idle : waitOf (s .tables) i ≡ none) where
   -- where i does not wait after it either, it has the outcome it had
   abbrev Stays : Tables → Type 0
   Stays t = waitOf t i ≡ none → outcomeOf t i ≡ outcomeOf (s .tables) i
@@ -80,7 +80,7 @@ module _ (s : State) (I : Inv s) (i : ℕ) (h : i < tasks (s .tables)) (idle : w
 
   effect-leaves : (x : Step) → firstRow (refusals s x) ≡ none → Leaves (effect s x)
   unfolding effect refusals lockBy passOn pendBy credit flushOf tickOf yieldBy
-  effect-leaves (task p) e = λ after. snoc-default granted (s .tables .outcomes) i
+  effect-leaves (task p) e = λ after. snoc-default granted (s .tables .tasks .outcomes) i
   effect-leaves (mutex k) e = λ after. refl
   effect-leaves (sem count max) e = λ after. refl
   effect-leaves start e = λ after. refl
@@ -111,7 +111,7 @@ module _ (s : State) (I : Inv s) (i : ℕ) (h : i < tasks (s .tables)) (idle : w
   effect-leaves (outcome j) e = λ after. refl
 
 -- "Nothing but the beginning and the end of a wait changes an outcome.": a task that waits neither before nor after a step has the outcome it had
-pub outcome-stays : (s : State) → Inv s → (x : Step) → (i : ℕ) → i < tasks (s .tables) → waitOf (s .tables) i ≡ none
+pub outcome-stays : (s : State) → Inv s → (x : Step) → (i : ℕ) → i < taskCount (s .tables) → waitOf (s .tables) i ≡ none
     → waitOf ((step s x) .state .tables) i ≡ none → outcomeOf ((step s x) .state .tables) i ≡ outcomeOf (s .tables) i
 outcome-stays s I x i h idle = step-by (λ a. Stays s I i h idle (a .state .tables)) s x (λ r e after. refl)
     (λ e. rw (finish-tables s (effect s x)) (effect-leaves s I i h idle x e)) (λ e. absurd (clash (inv-sound s I) e))

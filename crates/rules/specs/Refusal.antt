@@ -6,7 +6,7 @@ use Prim.Native.Nat.{ℕ}
 use lib.Dec.{ltb, leb, eqb}
 use Rattle.lists.specs.Test.{_and_, _or_, someb, holds}
 use Rattle.rules.specs.Sizes.{maxTasks, maxMutexes, maxSemaphores, levels, kinds, maxHold, maxTicks, forever}
-use Rattle.rules.specs.Tables.{semOf, tasks, mutexes, semaphores, ownerOf, countOf, maximumOf}
+use Rattle.rules.specs.Tables.{mutexOf, semOf, taskCount, mutexCount, semCount, ownerOf, countOf, maximumOf}
 use Rattle.rules.specs.Levels.{linksOf, closesRing, bestWaiter}
 use Rattle.rules.specs.State.{State}
 use Rattle.rules.specs.Step.{Step, task, mutex, sem, start, lock, unlock, pend, post, flush, sleep, yield, hold, free, tick, level, outcome}
@@ -43,7 +43,7 @@ ofCaller (some r) p = p r
 
 unfoldable pub linksFor : State → ℕ → Option ℕ → ℕ
 linksFor s m none = 0
-linksFor s m (some r) = linksOf (s .tables) r m
+linksFor s m (some r) = linksOf (s .tables) r (mutexOf m)
 
 -- a lock of m meets an owner; a pend of k meets no credit: the step would wait
 abbrev pub taken : State → ℕ → Bool
@@ -57,21 +57,21 @@ callerOwns s m = ofCaller (s .running) (holds (ownerOf (s .tables) m))
 
 -- "lock whose wait would close a ring", with its links
 abbrev pub ringRow : State → ℕ → Row
-ringRow s m = record { number = 12; when = taken s m and ofCaller (s .running) (λ r. closesRing (s .tables) r m); value = linksFor s m (s .running) }
+ringRow s m = record { number = 12; when = taken s m and ofCaller (s .running) (λ r. closesRing (s .tables) r (mutexOf m)); value = linksFor s m (s .running) }
 
 abbrev pub noSuchMutex : State → ℕ → Bool
-noSuchMutex s m = leb (mutexes (s .tables)) m
+noSuchMutex s m = leb (mutexCount (s .tables)) m
 
 abbrev pub noSuchSem : State → ℕ → Bool
-noSuchSem s k = leb (semaphores (s .tables)) k
+noSuchSem s k = leb (semCount (s .tables)) k
 
 abbrev pub noSuchTask : State → ℕ → Bool
-noSuchTask s i = leb (tasks (s .tables)) i
+noSuchTask s i = leb (taskCount (s .tables)) i
 
 unfoldable pub refusals : State → Step → List Row
-refusals s (task p) = (4 when s .started) ∷ (7 when leb levels p) ∷ (8 when leb maxTasks (tasks (s .tables))) ∷ []
-refusals s (mutex k) = (4 when s .started) ∷ (7 when leb kinds k) ∷ (8 when leb maxMutexes (mutexes (s .tables))) ∷ []
-refusals s (sem count max) = (4 when s .started) ∷ (7 when eqb max 0 or ltb max count) ∷ (8 when leb maxSemaphores (semaphores (s .tables))) ∷ []
+refusals s (task p) = (4 when s .started) ∷ (7 when leb levels p) ∷ (8 when leb maxTasks (taskCount (s .tables))) ∷ []
+refusals s (mutex k) = (4 when s .started) ∷ (7 when leb kinds k) ∷ (8 when leb maxMutexes (mutexCount (s .tables))) ∷ []
+refusals s (sem count max) = (4 when s .started) ∷ (7 when eqb max 0 or ltb max count) ∷ (8 when leb maxSemaphores (semCount (s .tables))) ∷ []
 refusals s start = (4 when s .started) ∷ []
 refusals s (lock m t) = (4 when not (s .started)) ∷ (5 when noCaller s) ∷ (6 when noSuchMutex s m) ∷ (7 when not (isWaitingTime t)) ∷ (9 when callerOwns s m)
     ∷ (3 when taken s m and eqb t 0) ∷ (11 when taken s m and held s) ∷ ringRow s m ∷ []

@@ -16,7 +16,7 @@ use Rattle.lists.specs.Count.{eqn, occ}
 use Rattle.lists.specs.Order.{insertTail}
 use Rattle.lists.specs.TestLaws.{which, clash, by-test, and-l, and-false, none-some, some-same, true-some, holds-true}
 use Rattle.lists.specs.CountLaws.{eqn-at, eqn-other}
-use Rattle.rules.specs.Tables.{mutexOf, semOf, tasks, ownerOf}
+use Rattle.rules.specs.Tables.{mutexOf, semOf, taskCount, ownerOf}
 use Rattle.rules.specs.Levels.{bestWaiter}
 use Rattle.rules.specs.State.{State, placed, levelOf}
 use Rattle.rules.specs.Step.{Step, task, mutex, sem, start, lock, unlock, pend, post, flush, sleep, yield, hold, free, tick, level, outcome}
@@ -251,7 +251,7 @@ yield-to-tail s I r began run unheld = step-by (λ a. a .state ≡ next) s yield
 
     go : (o : Option ℕ) → o ≡ some r → finish s (called s o (yieldBy s)) ≡ next
     go o q = rw q (by-test (λ (z : State). z ≡ next) (s .started)
-        (λ e. meet-again s none none _ _ ∙ ap (meet s none) (settled-one (tasks (s .tables)) r (levelOf s) (levelOf s) (s .ready) (caller-in s I r run) (λ i m. refl) (I .ascending))) (λ e. absurd (clash began e)))
+        (λ e. meet-again s none none _ _ ∙ ap (meet s none) (settled-one (taskCount (s .tables)) r (levelOf s) (levelOf s) (s .ready) (caller-in s I r run) (λ i m. refl) (I .ascending))) (λ e. absurd (clash began e)))
 
 -- 15: "the state handed in isn't sound", and no task is named
 pub unsound-15 : (s : State) (x : Step) → soundb s ≡ false → step s x ≡ record { state = s; number = 15; value = 0; run = none }

@@ -7,7 +7,7 @@ use lib.Dec.{ltb, eqb}
 use Rattle.lists.specs.Test.{_and_}
 use Rattle.lists.specs.Count.{member}
 use Rattle.lists.specs.Order.{keep, byId, insertHead, stable}
-use Rattle.rules.specs.Tables.{tasks}
+use Rattle.rules.specs.Tables.{taskCount}
 use Rattle.rules.specs.State.{State, placed, levelOf}
 use Rattle.rules.specs.Effect.{Effect}
 
@@ -19,7 +19,7 @@ settledReady n old new ready woken =
     stable new (keep same ready ++ (byId n (λ i. not (same i) and member i ready) ++ byId n (λ i. member i woken)))
 
 abbrev pub settle : (ℕ → ℕ) → State → List ℕ → State
-settle old s woken = placed s (s .running) (settledReady (tasks (s .tables)) old (levelOf s) (s .ready) woken)
+settle old s woken = placed s (s .running) (settledReady (taskCount (s .tables)) old (levelOf s) (s .ready) woken)
 
 -- r runs and l is ready: "if nobody runs, the first ready task runs. If hold is 0 and the first ready task is strictly more urgent than
 -- the running one, they change places and the displaced task goes to the head of its level. Equal levels never displace"

@@ -16,7 +16,7 @@ use Rattle.lists.specs.TestLaws.{which, clash, by-test, and-r, true-and, and-fa
 use Rattle.lists.specs.CountLaws.{eqn-other, occ-append, occ-head}
 use Rattle.lists.specs.OrderLaws.{insertAll-append, keep-in, asc-keep, occ-place, asc-first, asc-insertHead, asc-stable, occ-stable, stable-asc, stable-snoc, keep-all, occ-byId, occ-split, asc-change, byId-none, byId-one}
 use Rattle.rules.specs.Sizes.{wordSize, maxHold}
-use Rattle.rules.specs.Tables.{tasks}
+use Rattle.rules.specs.Tables.{taskCount}
 use Rattle.rules.specs.State.{State, placed, levelOf}
 use Rattle.rules.specs.Effect.{Effect}
 use Rattle.rules.specs.Settle.{settledReady, settle, meet, dispatch, finish}
@@ -164,13 +164,13 @@ pub finish-inv : (before : State) (e : Effect) → Facts (e .state .tables) → 
     → Inv (finish before e)
 unfolding finish dispatch occ
 finish-inv before e F clock depth P H U = by-test Inv (e .state .started)
-    (λ on. meet-inv settled F clock depth on (s .running) order places (asc-settled (tasks (s .tables)) old (levelOf s) (s .ready) (e .woken)) H)
+    (λ on. meet-inv settled F clock depth on (s .running) order places (asc-settled (taskCount (s .tables)) old (levelOf s) (s .ready) (e .woken)) H)
     (λ off. record {
       facts = F;
       clock-in = clock;
       hold-in = depth;
       places = places;
-      ascending = asc-settled (tasks (s .tables)) old (levelOf s) (s .ready) (e .woken);
+      ascending = asc-settled (taskCount (s .tables)) old (levelOf s) (s .ready) (e .woken);
       when-started = λ on. absurd (clash on off);
       in-set-up = U;
     })
@@ -182,13 +182,13 @@ finish-inv before e F clock depth P H U = by-test Inv (e .state .started)
     old = levelOf before
 
     order : List ℕ
-    order = settledReady (tasks (s .tables)) old (levelOf s) (s .ready) (e .woken)
+    order = settledReady (taskCount (s .tables)) old (levelOf s) (s .ready) (e .woken)
 
     settled : State
     settled = settle old s (e .woken)
 
-    places : (i : ℕ) → occ i [] + (occ i order + (occ i (s .tables .waiting) + occ i (opt (s .running)))) ≡ below i (tasks (s .tables))
-    places i = omega (arith, P i, nothing, occ-settled (tasks (s .tables)) old (levelOf s) (s .ready) (e .woken) i (omega (arith, P i)) (omega (arith, P i)))
+    places : (i : ℕ) → occ i [] + (occ i order + (occ i (s .tables .tasks .waiting) + occ i (opt (s .running)))) ≡ below i (taskCount (s .tables))
+    places i = omega (arith, P i, nothing, occ-settled (taskCount (s .tables)) old (levelOf s) (s .ready) (e .woken) i (omega (arith, P i)) (omega (arith, P i)))
       where
         nothing : occ i [] ≡ 0
         nothing = refl

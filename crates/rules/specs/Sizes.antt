@@ -5,6 +5,10 @@ use Prim.Native.Nat.{ℕ}
 abbrev pub maxTasks : ℕ
 maxTasks = 16
 
+-- how many tasks a record and its lists have places for: no fewer than there may be tasks
+abbrev pub taskPlaces : ℕ
+taskPlaces = 16
+
 abbrev pub maxMutexes : ℕ
 maxMutexes = 8
 
@@ -50,3 +54,13 @@ timedOut = 20
 
 abbrev pub flushed : ℕ
 flushed = 21
+
+-- the kinds of wait; 0 is none
+abbrev pub onMutex : ℕ
+onMutex = 1
+
+abbrev pub onSemaphore : ℕ
+onSemaphore = 2
+
+abbrev pub onTime : ℕ
+onTime = 3

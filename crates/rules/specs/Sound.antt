@@ -10,20 +10,20 @@ use Rattle.lists.specs.Count.{occ, opt}
 use Rattle.lists.specs.Order.{ascb, tiesb, inside}
 use Rattle.chains.specs.Chain.{endsb}
 use Rattle.rules.specs.Sizes.{maxTasks, maxMutexes, maxSemaphores, levels, kinds, wordSize, maxHold, maxTicks, granted, pending, timedOut, flushed}
-use Rattle.rules.specs.Tables.{Awaited, mutexOf, semOf, time, Wait, Tables, tasks, mutexes, semaphores, priorityOf, outcomeOf, waitOf, kindOf, ownerOf, countOf, maximumOf}
+use Rattle.rules.specs.Tables.{Awaited, mutexOf, semOf, time, isSleep, Wait, Tables, taskCount, mutexCount, semCount, priorityOf, outcomeOf, waitOf, kindOf, ownerOf, countOf, maximumOf}
 use Rattle.rules.specs.Levels.{next}
 use Rattle.rules.specs.State.{State, levelOf}
 
 -- the columns of a kind of object have one place for each
 unfoldable pub columnsb : Tables → Bool
-columnsb t = eqb (length (t .waits)) (tasks t) and eqb (length (t .outcomes)) (tasks t) and eqb (length (t .kinds)) (mutexes t) and eqb (length (t .maxima)) (semaphores t)
+columnsb t = eqb (length (t .tasks .waits)) (taskCount t) and eqb (length (t .tasks .outcomes)) (taskCount t) and eqb (length (t .mutexes .kinds)) (mutexCount t) and eqb (length (t .semaphores .maxima)) (semCount t)
 
 -- "Numbers within the ranges above"
 unfoldable pub sizesb : Tables → Bool
-sizesb t = leb (tasks t) maxTasks and leb (mutexes t) maxMutexes and leb (semaphores t) maxSemaphores
+sizesb t = leb (taskCount t) maxTasks and leb (mutexCount t) maxMutexes and leb (semCount t) maxSemaphores
 
 unfoldable pub rangesb : Tables → Bool
-rangesb t = allb (tasks t) (λ i. ltb (priorityOf t i) levels) and allb (mutexes t) (λ m. ltb (kindOf t m) kinds)
+rangesb t = allb (taskCount t) (λ i. ltb (priorityOf t i) levels) and allb (mutexCount t) (λ m. ltb (kindOf t m) kinds)
 
 unfoldable pub clockb : State → Bool
 clockb s = ltb (s .clock) wordSize and leb (s .hold) maxHold
@@ -34,11 +34,11 @@ waitCount none = 0
 waitCount (some w) = 1
 
 unfoldable pub waitingb : Tables → Bool
-waitingb t = inside (tasks t) (t .waiting) and allb (tasks t) (λ i. eqb (occ i (t .waiting)) (waitCount (waitOf t i)))
+waitingb t = inside (taskCount t) (t .tasks .waiting) and allb (taskCount t) (λ i. eqb (occ i (t .tasks .waiting)) (waitCount (waitOf t i)))
 
 unfoldable pub placesb : State → Bool
-placesb s = inside (tasks (s .tables)) (s .ready) and inside (tasks (s .tables)) (opt (s .running))
-    and allb (tasks (s .tables)) (λ i. eqb (occ i (s .ready) + (occ i (s .tables .waiting) + occ i (opt (s .running)))) 1)
+placesb s = inside (taskCount (s .tables)) (s .ready) and inside (taskCount (s .tables)) (opt (s .running))
+    and allb (taskCount (s .tables)) (λ i. eqb (occ i (s .ready) + (occ i (s .tables .tasks .waiting) + occ i (opt (s .running)))) 1)
 
 -- "ready order ascending by level"
 unfoldable pub ascendingb : State → Bool
@@ -47,17 +47,13 @@ ascendingb s = ascb (levelOf s) (s .ready)
 -- "each waiter waits for an existing object that isn't available to it (mutex owned, semaphore at 0) or for time"
 unfoldable pub unavailableb : Tables → Awaited → Bool
 unavailableb t (mutexOf m) = someb (ownerOf t m)
-unavailableb t (semOf k) = ltb k (semaphores t) and eqb (countOf t k) 0
+unavailableb t (semOf k) = ltb k (semCount t) and eqb (countOf t k) 0
 unavailableb t time = true
 
 -- "each timed wait has 1 to 2147483647 ticks left and each sleep is timed"
 unfoldable pub leftb : Awaited → Option ℕ → Bool
-leftb (mutexOf m) none = true
-leftb (semOf k) none = true
-leftb time none = false
-leftb (mutexOf m) (some n) = ltb 0 n and leb n maxTicks
-leftb (semOf k) (some n) = ltb 0 n and leb n maxTicks
-leftb time (some n) = ltb 0 n and leb n maxTicks
+leftb a none = not (isSleep a)
+leftb a (some n) = ltb 0 n and leb n maxTicks
 
 unfoldable pub blockedb : Tables → Option Wait → Bool
 blockedb t none = true
@@ -68,10 +64,10 @@ timedb none = true
 timedb (some w) = leftb (w .on) (w .left)
 
 unfoldable pub waitersb : Tables → Bool
-waitersb t = allb (tasks t) (λ i. blockedb t (waitOf t i))
+waitersb t = allb (taskCount t) (λ i. blockedb t (waitOf t i))
 
 unfoldable pub timesb : Tables → Bool
-timesb t = allb (tasks t) (λ i. timedb (waitOf t i))
+timesb t = allb (taskCount t) (λ i. timedb (waitOf t i))
 
 -- "owners exist"
 unfoldable pub existsb : ℕ → Option ℕ → Bool
@@ -79,15 +75,15 @@ existsb n none = true
 existsb n (some o) = ltb o n
 
 unfoldable pub ownersb : Tables → Bool
-ownersb t = allb (mutexes t) (λ m. existsb (tasks t) (ownerOf t m))
+ownersb t = allb (mutexCount t) (λ m. existsb (taskCount t) (ownerOf t m))
 
 -- "no ring of waits"
 unfoldable pub noRingb : Tables → Bool
-noRingb t = allb (tasks t) (λ i. endsb (tasks t) (next t) (next t i))
+noRingb t = allb (taskCount t) (λ i. endsb (taskCount t) (next t) (next t i))
 
 -- "counts at most their maximum, maximum at least 1"
 unfoldable pub countsb : Tables → Bool
-countsb t = allb (semaphores t) (λ k. leb (countOf t k) (maximumOf t k) and ltb 0 (maximumOf t k))
+countsb t = allb (semCount t) (λ k. leb (countOf t k) (maximumOf t k) and ltb 0 (maximumOf t k))
 
 -- "outcomes 0, 1, 20 or 21, and 1 exactly for waiting tasks"
 unfoldable pub outcomeb : Option Wait → ℕ → Bool
@@ -95,7 +91,7 @@ outcomeb none n = eqb n granted or eqb n timedOut or eqb n flushed
 outcomeb (some w) n = eqb n pending
 
 unfoldable pub outcomesb : Tables → Bool
-outcomesb t = allb (tasks t) (λ i. outcomeb (waitOf t i) (outcomeOf t i))
+outcomesb t = allb (taskCount t) (λ i. outcomeb (waitOf t i) (outcomeOf t i))
 
 -- "once started, a task runs if any is ready"
 unfoldable pub noneIn : List ℕ → Bool
@@ -121,9 +117,9 @@ urgentb s = not (eqb (s .hold) 0) or urgentTop (levelOf s) (s .running) (s .read
 -- "In set-up: clock 0, hold 0, nothing running, waiting or owned, outcomes 0, every task ready, equal levels by id": every task is ready
 -- by `placesb`, since none runs or waits
 unfoldable pub setUpb : State → Bool
-setUpb s = eqb (s .clock) 0 and eqb (s .hold) 0 and not (someb (s .running)) and noneIn (s .tables .waiting)
-    and allb (mutexes (s .tables)) (λ m. not (someb (ownerOf (s .tables) m)))
-    and allb (tasks (s .tables)) (λ i. eqb (outcomeOf (s .tables) i) granted)
+setUpb s = eqb (s .clock) 0 and eqb (s .hold) 0 and not (someb (s .running)) and noneIn (s .tables .tasks .waiting)
+    and allb (mutexCount (s .tables)) (λ m. not (someb (ownerOf (s .tables) m)))
+    and allb (taskCount (s .tables)) (λ i. eqb (outcomeOf (s .tables) i) granted)
     and tiesb (levelOf s) (s .ready)
 
 -- what holds of the tables in every phase

@@ -19,7 +19,7 @@ use Rattle.lists.specs.OrderLaws.{asc-first, asc-true, true-asc, ties-true, tru
 use Rattle.chains.specs.Chain.{Chain, end, link, Ends, endsb}
 use Rattle.chains.specs.ChainLaws.{chain-short, ends-true, true-ends}
 use Rattle.rules.specs.Sizes.{maxTicks, granted, pending, timedOut, flushed}
-use Rattle.rules.specs.Tables.{Awaited, mutexOf, semOf, time, Wait, Tables, tasks, mutexes, semaphores, outcomeOf, waitOf, ownerOf, countOf}
+use Rattle.rules.specs.Tables.{Awaited, mutexOf, semOf, time, isSleep, Wait, Tables, taskCount, mutexCount, semCount, outcomeOf, waitOf, ownerOf, countOf}
 use Rattle.rules.specs.Levels.{next}
 use Rattle.rules.specs.State.{State, levelOf}
 use Rattle.rules.specs.Sound.{columnsb, sizesb, rangesb, clockb, waitCount, waitingb, placesb, ascendingb, unavailableb, leftb, blockedb, timedb, waitersb, timesb, existsb, ownersb, noRingb, countsb, outcomeb, outcomesb, noneIn, runsb, holdb, urgentTop, urgentb, setUpb, tablesb, soundb}
@@ -30,13 +30,13 @@ use Rattle.rules.specs.LevelLaws.{wait-out, next-none, next-ended}
 unavailable-true : (t : Tables) (a : Awaited) → unavailableb t a ≡ true → Unavailable t a
 unfolding unavailableb
 unavailable-true t (mutexOf m) e = some-true (ownerOf t m) e
-unavailable-true t (semOf k) e = (ltb-true k (semaphores t) (and-l _ _ e), eqb-true (countOf t k) 0 (and-r _ _ e))
+unavailable-true t (semOf k) e = (ltb-true k (semCount t) (and-l _ _ e), eqb-true (countOf t k) 0 (and-r _ _ e))
 unavailable-true t time e = tt
 
 true-unavailable : (t : Tables) (a : Awaited) → Unavailable t a → unavailableb t a ≡ true
 unfolding unavailableb
 true-unavailable t (mutexOf m) u = true-some (ownerOf t m) (u .0) (u .1)
-true-unavailable t (semOf k) u = true-and _ _ (lt-ltb k (semaphores t) (u .0)) (eq-eqb (countOf t k) 0 (u .1))
+true-unavailable t (semOf k) u = true-and _ _ (lt-ltb k (semCount t) (u .0)) (eq-eqb (countOf t k) 0 (u .1))
 true-unavailable t time u = refl
 
 blocked-true : (t : Tables) (o : Option Wait) → blockedb t o ≡ true → Blocked t o
@@ -57,21 +57,13 @@ true-ticks n u = true-and _ _ (lt-ltb 0 n (u .0)) (le-leb n maxTicks (u .1))
 
 left-true : (a : Awaited) (o : Option ℕ) → leftb a o ≡ true → Left a o
 unfolding leftb
-left-true (mutexOf m) none e = tt
-left-true (semOf k) none e = tt
-left-true time none e = clash e refl
-left-true (mutexOf m) (some n) e = ticks-true n e
-left-true (semOf k) (some n) e = ticks-true n e
-left-true time (some n) e = ticks-true n e
+left-true a none e = not-true (isSleep a) e
+left-true a (some n) e = ticks-true n e
 
 true-left : (a : Awaited) (o : Option ℕ) → Left a o → leftb a o ≡ true
 unfolding leftb
-true-left (mutexOf m) none u = refl
-true-left (semOf k) none u = refl
-true-left time none u = absurd u
-true-left (mutexOf m) (some n) u = true-ticks n u
-true-left (semOf k) (some n) u = true-ticks n u
-true-left time (some n) u = true-ticks n u
+true-left a none u = rw u refl
+true-left a (some n) u = true-ticks n u
 
 timed-true : (o : Option Wait) → timedb o ≡ true → Timed o
 unfolding timedb
@@ -122,38 +114,38 @@ module _ (t : Tables) where
     few-tasks = leb-true _ _ (and-l _ _ sizes);
     few-mutexes = leb-true _ _ (and-l _ _ (and-r _ _ sizes));
     few-semaphores = leb-true _ _ (and-r _ _ (and-r _ _ sizes));
-    priorities = λ i h. ltb-true _ _ (all-true (tasks t) _ (and-l _ _ ranges) i h);
-    kinds-in = λ m h. ltb-true _ _ (all-true (mutexes t) _ (and-r _ _ ranges) m h);
-    waiting = λ i. elim (decLt i (tasks t)) [
-      | yes h ↦ eqb-true _ _ (all-true (tasks t) _ (and-r _ _ waiting) i h)
-      | no h ↦ inside-true (tasks t) (t .waiting) (and-l _ _ waiting) i (omega arith) ∙ sym (ap waitCount (out i (omega arith)))
+    priorities = λ i h. ltb-true _ _ (all-true (taskCount t) _ (and-l _ _ ranges) i h);
+    kinds-in = λ m h. ltb-true _ _ (all-true (mutexCount t) _ (and-r _ _ ranges) m h);
+    waiting = λ i. elim (decLt i (taskCount t)) [
+      | yes h ↦ eqb-true _ _ (all-true (taskCount t) _ (and-r _ _ waiting) i h)
+      | no h ↦ inside-true (taskCount t) (t .tasks .waiting) (and-l _ _ waiting) i (omega arith) ∙ sym (ap waitCount (out i (omega arith)))
     ];
-    blocked = λ i. elim (decLt i (tasks t)) [
-      | yes h ↦ blocked-true t (waitOf t i) (all-true (tasks t) _ waiters i h)
+    blocked = λ i. elim (decLt i (taskCount t)) [
+      | yes h ↦ blocked-true t (waitOf t i) (all-true (taskCount t) _ waiters i h)
       | no h ↦ rw (out i (omega arith)) tt
     ];
-    timed = λ i. elim (decLt i (tasks t)) [
-      | yes h ↦ timed-true (waitOf t i) (all-true (tasks t) _ times i h)
+    timed = λ i. elim (decLt i (taskCount t)) [
+      | yes h ↦ timed-true (waitOf t i) (all-true (taskCount t) _ times i h)
       | no h ↦ rw (out i (omega arith)) tt
     ];
-    owners = λ m o q. elim (decLt m (mutexes t)) [
-      | yes h ↦ exists-true (tasks t) (ownerOf t m) (all-true (mutexes t) _ owners m h) o q
-      | no h ↦ none-some (List·getD-eq-default (t .owners) none (omega arith)) q
+    owners = λ m o q. elim (decLt m (mutexCount t)) [
+      | yes h ↦ exists-true (taskCount t) (ownerOf t m) (all-true (mutexCount t) _ owners m h) o q
+      | no h ↦ none-some (List·getD-eq-default (t .mutexes .owners) none (omega arith)) q
     ];
     ends = λ i. (let r = tail i in (i ∷ r .0, link (r .1)));
-    counts = λ k h. (let e = all-true (semaphores t) _ counts k h in (leb-true _ _ (and-l _ _ e), ltb-true _ _ (and-r _ _ e)));
-    outcomes = λ i h. outcome-true (waitOf t i) (outcomeOf t i) (all-true (tasks t) _ outcomes i h);
+    counts = λ k h. (let e = all-true (semCount t) _ counts k h in (leb-true _ _ (and-l _ _ e), ltb-true _ _ (and-r _ _ e)));
+    outcomes = λ i h. outcome-true (waitOf t i) (outcomeOf t i) (all-true (taskCount t) _ outcomes i h);
   }
     where
-      column : length (t .waits) ≡ tasks t
-      column = eqb-true (length (t .waits)) (tasks t) (and-l _ _ columns)
+      column : length (t .tasks .waits) ≡ taskCount t
+      column = eqb-true (length (t .tasks .waits)) (taskCount t) (and-l _ _ columns)
 
-      out : (i : ℕ) → tasks t ≤ i → waitOf t i ≡ none
+      out : (i : ℕ) → taskCount t ≤ i → waitOf t i ≡ none
       out = wait-out t column
 
       tail : (i : ℕ) → Ends (next t) (next t i)
-      tail i = elim (decLt i (tasks t)) [
-        | yes h ↦ ends-true (tasks t) (next t i) (all-true (tasks t) _ rings i h)
+      tail i = elim (decLt i (taskCount t)) [
+        | yes h ↦ ends-true (taskCount t) (next t i) (all-true (taskCount t) _ rings i h)
         | no h ↦ rw (next-none t i (out i (omega arith))) ([], end)
       ]
 
@@ -171,7 +163,7 @@ module _ (t : Tables) where
       facts-of (and-l _ _ e₀) (and-l _ _ e₁) (and-l _ _ e₂) (and-l _ _ e₃) (and-l _ _ e₄) (and-l _ _ e₅) (and-l _ _ e₆) (and-l _ _ e₇) (and-l _ _ e₈) (and-r _ _ e₈)
 
   -- nobody waits but tasks
-  none-outside : Facts t → (i : ℕ) → tasks t ≤ i → occ i (t .waiting) ≡ 0
+  none-outside : Facts t → (i : ℕ) → taskCount t ≤ i → occ i (t .tasks .waiting) ≡ 0
   unfolding waitCount
   none-outside F i h = F .waiting i ∙ ap waitCount (wait-out t (F .wait-column) i h)
 
@@ -180,17 +172,17 @@ module _ (t : Tables) where
   facts-tables F =
       true-and _ _ (true-and _ _ (eq-eqb _ _ (F .wait-column)) (true-and _ _ (eq-eqb _ _ (F .outcome-column)) (true-and _ _ (eq-eqb _ _ (F .kind-column)) (eq-eqb _ _ (F .maximum-column)))))
       (true-and _ _ (true-and _ _ (le-leb _ _ (F .few-tasks)) (true-and _ _ (le-leb _ _ (F .few-mutexes)) (le-leb _ _ (F .few-semaphores))))
-      (true-and _ _ (true-and _ _ (true-all (tasks t) _ (λ i h. lt-ltb _ _ (F .priorities i h))) (true-all (mutexes t) _ (λ m h. lt-ltb _ _ (F .kinds-in m h))))
-      (true-and _ _ (true-and _ _ (true-inside (tasks t) (t .waiting) (none-outside F)) (true-all (tasks t) _ (λ i h. eq-eqb _ _ (F .waiting i))))
-      (true-and _ _ (true-all (tasks t) _ (λ i h. true-blocked t (waitOf t i) (F .blocked i)))
-      (true-and _ _ (true-all (tasks t) _ (λ i h. true-timed (waitOf t i) (F .timed i)))
-      (true-and _ _ (true-all (mutexes t) _ (λ m h. true-exists (tasks t) (ownerOf t m) (F .owners m)))
-      (true-and _ _ (true-all (tasks t) _ (λ i h. rest i (F .ends i .1)))
-      (true-and _ _ (true-all (semaphores t) _ (λ k h. true-and _ _ (le-leb _ _ (F .counts k h .0)) (lt-ltb _ _ (F .counts k h .1))))
-      (true-all (tasks t) _ (λ i h. true-outcome (waitOf t i) (outcomeOf t i) (F .outcomes i h)))))))))))
+      (true-and _ _ (true-and _ _ (true-all (taskCount t) _ (λ i h. lt-ltb _ _ (F .priorities i h))) (true-all (mutexCount t) _ (λ m h. lt-ltb _ _ (F .kinds-in m h))))
+      (true-and _ _ (true-and _ _ (true-inside (taskCount t) (t .tasks .waiting) (none-outside F)) (true-all (taskCount t) _ (λ i h. eq-eqb _ _ (F .waiting i))))
+      (true-and _ _ (true-all (taskCount t) _ (λ i h. true-blocked t (waitOf t i) (F .blocked i)))
+      (true-and _ _ (true-all (taskCount t) _ (λ i h. true-timed (waitOf t i) (F .timed i)))
+      (true-and _ _ (true-all (mutexCount t) _ (λ m h. true-exists (taskCount t) (ownerOf t m) (F .owners m)))
+      (true-and _ _ (true-all (taskCount t) _ (λ i h. rest i (F .ends i .1)))
+      (true-and _ _ (true-all (semCount t) _ (λ k h. true-and _ _ (le-leb _ _ (F .counts k h .0)) (lt-ltb _ _ (F .counts k h .1))))
+      (true-all (taskCount t) _ (λ i h. true-outcome (waitOf t i) (outcomeOf t i) (F .outcomes i h)))))))))))
     where
-      rest : (i : ℕ) {l : List ℕ} → Chain (next t) (some i) l → endsb (tasks t) (next t) (next t i) ≡ true
-      rest i (link c) = true-ends c (tasks t) (chain-short (tasks t) (next-ended t F .to) c (next-ended t F .to i))
+      rest : (i : ℕ) {l : List ℕ} → Chain (next t) (some i) l → endsb (taskCount t) (next t) (next t i) ≡ true
+      rest i (link c) = true-ends c (taskCount t) (chain-short (taskCount t) (next-ended t F .to) c (next-ended t F .to i))
 
 -- each phrase of the state
 none-true : (l : List ℕ) → noneIn l ≡ true → (i : ℕ) → occ i l ≡ 0
@@ -242,11 +234,11 @@ cond-false false x y e q = e
 -- the test of the state
 module _ (s : State) where
   abbrev size : ℕ
-  size = tasks (s .tables)
+  size = taskCount (s .tables)
 
   -- how often i stands in the three places
   abbrev spots : ℕ → ℕ
-  spots i = occ i (s .ready) + (occ i (s .tables .waiting) + occ i (opt (s .running)))
+  spots i = occ i (s .ready) + (occ i (s .tables .tasks .waiting) + occ i (opt (s .running)))
 
   places-true : Facts (s .tables) → placesb s ≡ true → Places s []
   unfolding placesb occ
@@ -301,14 +293,14 @@ module _ (s : State) where
         clock-0 = eqb-true _ _ (and-l _ _ e₀);
         hold-0 = eqb-true _ _ (and-l _ _ e₁);
         idle = some-false (s .running) (not-true _ (and-l _ _ e₂));
-        nobody-waits = none-true (s .tables .waiting) (and-l _ _ e₃);
-        nothing-owned = λ m. elim (decLt m (mutexes (s .tables))) [
-          | yes h ↦ some-false _ (not-true _ (all-true (mutexes (s .tables)) _ (and-l _ _ e₄) m h))
-          | no h ↦ List·getD-eq-default (s .tables .owners) none (omega arith)
+        nobody-waits = none-true (s .tables .tasks .waiting) (and-l _ _ e₃);
+        nothing-owned = λ m. elim (decLt m (mutexCount (s .tables))) [
+          | yes h ↦ some-false _ (not-true _ (all-true (mutexCount (s .tables)) _ (and-l _ _ e₄) m h))
+          | no h ↦ List·getD-eq-default (s .tables .mutexes .owners) none (omega arith)
         ];
-        outcomes-0 = λ i. elim (decLt i (tasks (s .tables))) [
-          | yes h ↦ eqb-true _ _ (all-true (tasks (s .tables)) _ (and-l _ _ e₅) i h)
-          | no h ↦ List·getD-eq-default (s .tables .outcomes) 0 (omega (arith, F .outcome-column))
+        outcomes-0 = λ i. elim (decLt i (taskCount (s .tables))) [
+          | yes h ↦ eqb-true _ _ (all-true (taskCount (s .tables)) _ (and-l _ _ e₅) i h)
+          | no h ↦ List·getD-eq-default (s .tables .tasks .outcomes) 0 (omega (arith, F .outcome-column))
         ];
         by-id = ties-true (levelOf s) (s .ready) a (and-r _ _ e₅);
       }
@@ -319,9 +311,9 @@ module _ (s : State) where
       true-and _ _ (eq-eqb _ _ (S .clock-0))
       (true-and _ _ (eq-eqb _ _ (S .hold-0))
       (true-and _ _ (ap (λ o. not (someb o)) (S .idle))
-      (true-and _ _ (true-none (s .tables .waiting) (S .nobody-waits))
-      (true-and _ _ (true-all (mutexes (s .tables)) _ (λ m h. ap (λ o. not (someb o)) (S .nothing-owned m)))
-      (true-and _ _ (true-all (tasks (s .tables)) _ (λ i h. eq-eqb _ _ (S .outcomes-0 i)))
+      (true-and _ _ (true-none (s .tables .tasks .waiting) (S .nobody-waits))
+      (true-and _ _ (true-all (mutexCount (s .tables)) _ (λ m h. ap (λ o. not (someb o)) (S .nothing-owned m)))
+      (true-and _ _ (true-all (taskCount (s .tables)) _ (λ i h. eq-eqb _ _ (S .outcomes-0 i)))
       (true-ties (levelOf s) (s .ready) (S .by-id)))))))
 
   -- document 01's term "sound state": the test and the invariant say the same

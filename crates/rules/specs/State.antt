@@ -19,7 +19,11 @@ pub record State : Type 0 where
 -- "A fresh state is in set-up, with nothing made, clock and hold 0."
 unfoldable pub fresh : State
 fresh = record {
-  tables = record { priorities = []; outcomes = []; waits = []; waiting = []; kinds = []; owners = []; counts = []; maxima = [] };
+  tables = record {
+    tasks = record { priorities = []; outcomes = []; waits = []; waiting = [] };
+    mutexes = record { kinds = []; owners = [] };
+    semaphores = record { counts = []; maxima = [] };
+  };
   started = false;
   clock = 0;
   hold = 0;

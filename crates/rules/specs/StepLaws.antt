@@ -15,8 +15,8 @@ use Rattle.lists.specs.TestLaws.{which, clash, by-test, and-l, and-r, and-false
 use Rattle.lists.specs.CountLaws.{occ-append, occ-opt, below-out, in-below, below-le}
 use Rattle.chains.specs.Chain.{end, link}
 use Rattle.rules.specs.Sizes.{maxTasks, maxMutexes, maxSemaphores, levels, kinds, wordSize, maxHold, maxTicks, forever, granted, flushed}
-use Rattle.rules.specs.Tables.{Awaited, mutexOf, semOf, time, Wait, Tables, tasks, mutexes, semaphores, outcomeOf, waitOf, ownerOf, countOf, maximumOf}
-use Rattle.rules.specs.Levels.{mutexAwaited, andThen, next, linksOf, closesRing, awaits, bestWaiter}
+use Rattle.rules.specs.Tables.{Awaited, mutexOf, semOf, time, awaitedKind, isSleep, Wait, Tables, taskCount, mutexCount, semCount, outcomeOf, waitOf, ownerOf, countOf, maximumOf}
+use Rattle.rules.specs.Levels.{ownerAwaited, ofWait, next, linksOf, closesRing, awaits, bestWaiter}
 use Rattle.rules.specs.State.{State, fresh, withTables, withStarted, withClock, withHold, levelOf}
 use Rattle.rules.specs.Step.{Step, task, mutex, sem, start, lock, unlock, pend, post, flush, sleep, yield, hold, free, tick, level, outcome}
 use Rattle.rules.specs.Effect.{Effect, done, give, setCount, endWaits, ended, ticksOf, waitFor, callerWaits, lockBy, passOn, pendBy, credit, flushOf, isDue, due, outcomeDue, ageAll, tickOf, yieldBy, called, effect}
@@ -25,9 +25,10 @@ use Rattle.rules.specs.Refusal.{Row, isWaitingTime, isSleepTime, held, o
 use Rattle.rules.specs.Sound.{waitCount}
 use Rattle.rules.specs.Answer.{decide, stepSound}
 use Rattle.rules.specs.Invariant.{Unavailable, Left, Facts, HoldRuns, SetUp, Started, Inv}
+use Rattle.rules.specs.LevelLaws.{ring-none}
 use Rattle.rules.specs.FactsLaws.{facts-give, facts-free, facts-begin, wait-ended, facts-end, facts-count, facts-age}
 use Rattle.rules.specs.SettleLaws.{settled-same, finish-inv}
-use Rattle.rules.specs.WaiterLaws.{wait-none, awaits-waits, mutex-awaits, sem-blocked, not-due, outcome-due, wait-in, best-waits, nobody-best, places-end}
+use Rattle.rules.specs.WaiterLaws.{wait-none, awaits-waits, awaited-blocked, not-due, outcome-due, wait-in, best-waits, nobody-best, places-end}
 use Rattle.rules.specs.CreationLaws.{mutex-inv, sem-inv, task-inv}
 
 -- where no row applies, the first does not, and none of those after it
@@ -36,16 +37,12 @@ unfolding firstRow
 passed r rs e = elim (which (r .when)) [ inl q ↦ none-some (rw q at e) refl | inr q ↦ (q, rw q at e) ]
 
 -- the ticks left of a wait that may begin; this depends on forever being no number of ticks
-pub left-mutex : (m t : ℕ) → isWaitingTime t ≡ true → eqb t 0 ≡ false → Left (mutexOf m) (ticksOf t)
+pub left-wait : (a : Awaited) (t : ℕ) → isSleep a ≡ false → isWaitingTime t ≡ true → eqb t 0 ≡ false → Left a (ticksOf t)
 unfolding ticksOf
-left-mutex m t e f = elim (which (eqb t forever)) [
-  | inl q ↦ rw q tt
+left-wait a t awake e f = elim (which (eqb t forever)) [
+  | inl q ↦ rw q awake
   | inr q ↦ rw q (omega (arith, eqb-false t 0 f), elim (or-true _ _ e) [ inl u ↦ leb-true t maxTicks u | inr u ↦ absurd (clash u q) ])
 ]
-
-pub left-sem : (k t : ℕ) → isWaitingTime t ≡ true → eqb t 0 ≡ false → Left (semOf k) (ticksOf t)
-unfolding ticksOf
-left-sem k t e f = left-mutex k t e f
 
 pub left-sleep : (t : ℕ) → isSleepTime t ≡ true → Left time (ticksOf t)
 unfolding ticksOf
@@ -53,10 +50,6 @@ left-sleep t e =
     let low = ltb-true 0 t (and-l _ _ e) in
     let high = leb-true t maxTicks (and-r _ _ e) in
     rw (ne-eqb t forever (λ q. omega arith)) (low, high)
-
--- a sleep is for no mutex
-pub sleep-no-mutex : {A : Type 0} {m : ℕ} → time ≡ mutexOf m → A
-sleep-no-mutex q = absurd (let z : _≡_ {A = ℕ} 0 1 = cc in omega arith)
 
 -- what a step that needs a caller gives, where it is not refused as 5
 pub called-by : (P : Effect → Type 0) (s : State) (o : Option ℕ) (f : ℕ → Effect) → not (someb o) ≡ false → ((r : ℕ) → o ≡ some r → P (f r)) → P (called s o f)
@@ -71,13 +64,13 @@ module _ (s : State) (I : Inv s) where
 
   -- the caller of a step
   module _ (r : ℕ) (run : s .running ≡ some r) where
-    pub caller-in : r < tasks (s .tables)
+    pub caller-in : r < taskCount (s .tables)
     unfolding occ
-    caller-in = in-below r (tasks (s .tables)) (omega (arith, I .places r, occ-opt (s .running) r run))
+    caller-in = in-below r (taskCount (s .tables)) (omega (arith, I .places r, occ-opt (s .running) r run))
 
     pub caller-idle : waitOf (s .tables) r ≡ none
     unfolding occ
-    caller-idle = wait-none (waitOf (s .tables) r) (omega (arith, I .places r, occ-opt (s .running) r run, I .facts .waiting r, below-le r (tasks (s .tables))))
+    caller-idle = wait-none (waitOf (s .tables) r) (omega (arith, I .places r, occ-opt (s .running) r run, I .facts .waiting r, below-le r (taskCount (s .tables))))
 
   -- after start nothing is asked of set-up
   no-set-up : {A : Type 0} → not (s .started) ≡ false → s .started ≡ false → A
@@ -98,7 +91,7 @@ module _ (s : State) (I : Inv s) where
         nobody-waits = U .nobody-waits;
         nothing-owned = U .nothing-owned;
         outcomes-0 = U .outcomes-0;
-        by-id = subst (Ties (levelOf s)) (sym (settled-same (tasks (s .tables)) (levelOf s) (levelOf s) (s .ready) (λ i m. refl) (I .ascending))) (U .by-id);
+        by-id = subst (Ties (levelOf s)) (sym (settled-same (taskCount (s .tables)) (levelOf s) (levelOf s) (s .ready) (λ i m. refl) (I .ascending))) (U .by-id);
       }
 
   -- after start
@@ -107,48 +100,45 @@ module _ (s : State) (I : Inv s) where
     S = I .when-started (not-false (s .started) on)
 
     -- a step that changes only the tables, no wait among them
-    tables-inv : (t : Tables) → Facts t → tasks t ≡ tasks (s .tables) → t .waiting ≡ s .tables .waiting → Keeps (done (withTables s t) [] 0)
+    tables-inv : (t : Tables) → Facts t → taskCount t ≡ taskCount (s .tables) → t .tasks .waiting ≡ s .tables .tasks .waiting → Keeps (done (withTables s t) [] 0)
     tables-inv t F n w = finish-inv s (done (withTables s t) [] 0) F (I .clock-in) (I .hold-in)
         (λ i. omega (arith, I .places i, ap (occ i) w, ap (below i) n)) (S .hold-runs) (no-set-up on)
 
     -- waits end
-    end-inv : (t : Tables) (p : ℕ → Bool) (c : ℕ) → Facts t → c < wordSize → tasks t ≡ tasks (s .tables) → t .waiting ≡ keep (λ i. not (p i)) (s .tables .waiting)
+    end-inv : (t : Tables) (p : ℕ → Bool) (c : ℕ) → Facts t → c < wordSize → taskCount t ≡ taskCount (s .tables) → t .tasks .waiting ≡ keep (λ i. not (p i)) (s .tables .tasks .waiting)
         → Keeps (done (withClock (withTables s t) c) (ended (s .tables) p) 0)
     end-inv t p c F low n w = finish-inv s (done (withClock (withTables s t) c) (ended (s .tables) p) 0) F low (I .hold-in)
         (places-end s t p n w (I .places)) (S .hold-runs) (no-set-up on)
 
     -- the caller waits
     wait-inv : (r : ℕ) (a : Awaited) (t links : ℕ) → s .running ≡ some r → held s ≡ false → Unavailable (s .tables) a → Left a (ticksOf t)
-        → ((m : ℕ) → a ≡ mutexOf m → closesRing (s .tables) r m ≡ false) → Keeps (callerWaits s r a t links)
+        → closesRing (s .tables) r a ≡ false → Keeps (callerWaits s r a t links)
     unfolding callerWaits occ
     wait-inv r a t links run unheld un left clear = finish-inv s (callerWaits s r a t links)
         (facts-begin (s .tables) r (waitFor a t) (caller-in r run) (caller-idle r run) un left clear (I .facts)) (I .clock-in) (I .hold-in)
-        (λ i. omega (arith, I .places i, occ-append i (s .tables .waiting) (r ∷ []), ap (λ x. occ i (opt x)) run))
+        (λ i. omega (arith, I .places i, occ-append i (s .tables .tasks .waiting) (r ∷ []), ap (λ x. occ i (opt x)) run))
         (λ h. absurd (omega (arith, ltb-false 0 (s .hold) unheld))) (no-set-up on)
 
     lock-inv : (r m t : ℕ) (o : Option ℕ) → s .running ≡ some r → ownerOf (s .tables) m ≡ o → noSuchMutex s m ≡ false → isWaitingTime t ≡ true
-        → someb o and eqb t 0 ≡ false → someb o and held s ≡ false → someb o and closesRing (s .tables) r m ≡ false → Keeps (lockBy s m t r o)
-    unfolding lockBy someb _and_
+        → someb o and eqb t 0 ≡ false → someb o and held s ≡ false → someb o and closesRing (s .tables) r (mutexOf m) ≡ false → Keeps (lockBy s m t r o)
+    unfolding lockBy someb _and_ awaitedKind
     lock-inv r m t none run e there valid now unheld ring = tables-inv (give (s .tables) m (some r))
-        (facts-give (s .tables) m r (leb-false (mutexes (s .tables)) m there) (caller-in r run) (caller-idle r run) (I .facts)) refl refl
+        (facts-give (s .tables) m r (leb-false (mutexCount (s .tables)) m there) (caller-in r run) (caller-idle r run) (I .facts)) refl refl
     lock-inv r m t (some o) run e there valid now unheld ring =
-        wait-inv r (mutexOf m) t (linksOf (s .tables) r m) run unheld (o, e) (left-mutex m t valid now) (λ k q. rw (same q) ring)
-      where
-        same : {k : ℕ} → mutexOf m ≡ mutexOf k → k ≡ m
-        same q = cc
+        wait-inv r (mutexOf m) t (linksOf (s .tables) r (mutexOf m)) run unheld (o, e) (left-wait (mutexOf m) t refl valid now) ring
 
     unlock-inv : (m : ℕ) (o : Option ℕ) → bestWaiter (s .tables) (mutexOf m) ≡ o → noSuchMutex s m ≡ false → Keeps (passOn s m o)
     unfolding passOn
     unlock-inv m none e there = tables-inv (give (s .tables) m none)
-        (facts-free (s .tables) m (λ i q. clash (mutex-awaits (waitOf (s .tables) i) m q) (nobody-best (s .tables) (I .facts) (mutexOf m) e i)) (I .facts)) refl refl
+        (facts-free (s .tables) m (nobody-best (s .tables) (I .facts) (mutexOf m) e) (I .facts)) refl refl
     unlock-inv m (some w) e there =
-        end-inv (give t m (some w)) (eqb w) (s .clock) (facts-give t m w (leb-false (mutexes (s .tables)) m there) inside gone
+        end-inv (give t m (some w)) (eqb w) (s .clock) (facts-give t m w (leb-false (mutexCount (s .tables)) m there) inside gone
         (facts-end (s .tables) (eqb w) (λ i. granted) (λ i q. inl refl) (I .facts))) (I .clock-in) refl refl
       where
         t : Tables
         t = endWaits (s .tables) (eqb w) (λ i. granted)
 
-        inside : w < tasks (s .tables)
+        inside : w < taskCount (s .tables)
         inside = wait-in (s .tables) (I .facts) w (omega (arith, awaits-waits (waitOf (s .tables) w) (mutexOf m) (best-waits (s .tables) (I .facts) (mutexOf m) w e)))
 
         gone : waitOf t w ≡ none
@@ -156,19 +146,16 @@ module _ (s : State) (I : Inv s) where
 
     pend-inv : (r k t : ℕ) → s .running ≡ some r → noSuchSem s k ≡ false → isWaitingTime t ≡ true → noCredit s k and eqb t 0 ≡ false
         → noCredit s k and held s ≡ false → Keeps (pendBy s k t r)
-    unfolding pendBy
+    unfolding pendBy ownerAwaited awaitedKind
     pend-inv r k t run there valid now unheld = by-test Keeps (noCredit s k)
-        (λ e. wait-inv r (semOf k) t 0 run (and-false _ _ e unheld) (leb-false (semaphores (s .tables)) k there, eqb-true (countOf (s .tables) k) 0 e)
-        (left-sem k t valid (and-false _ _ e now)) (λ m q. other q))
+        (λ e. wait-inv r (semOf k) t 0 run (and-false _ _ e unheld) (leb-false (semCount (s .tables)) k there, eqb-true (countOf (s .tables) k) 0 e)
+        (left-wait (semOf k) t refl valid (and-false _ _ e now)) (ring-none (s .tables) (I .facts) r (semOf k) refl))
         (λ e. tables-inv (setCount (s .tables) k (countOf (s .tables) k - 1)) (facts-count (s .tables) k (countOf (s .tables) k - 1)
-        (λ i. nobody e i) (omega (arith, I .facts .counts k (leb-false (semaphores (s .tables)) k there) .0)) (I .facts)) refl refl)
+        (λ i. nobody e i) (omega (arith, I .facts .counts k (leb-false (semCount (s .tables)) k there) .0)) (I .facts)) refl refl)
       where
-        other : {A : Type 0} {m : ℕ} → semOf k ≡ mutexOf m → A
-        other q = absurd (let z : _≡_ {A = ℕ} 0 1 = cc in omega arith)
-
         nobody : noCredit s k ≡ false → (i : ℕ) → awaits (s .tables) (semOf k) i ≡ false
         nobody e i = elim (which (awaits (s .tables) (semOf k) i)) [
-          | inl q ↦ absurd (eqb-false (countOf (s .tables) k) 0 e (sem-blocked (s .tables) k (waitOf (s .tables) i) (I .facts .blocked i) q))
+          | inl q ↦ absurd (eqb-false (countOf (s .tables) k) 0 e (awaited-blocked (s .tables) (semOf k) (waitOf (s .tables) i) (I .facts .blocked i) q .1))
           | inr q ↦ q
         ]
 
@@ -177,7 +164,7 @@ module _ (s : State) (I : Inv s) where
     unfolding credit someb _and_
     post-inv k none e there room = tables-inv (setCount (s .tables) k (countOf (s .tables) k + 1)) (facts-count (s .tables) k (countOf (s .tables) k + 1)
         (nobody-best (s .tables) (I .facts) (semOf k) e)
-        (omega (arith, I .facts .counts k (leb-false (semaphores (s .tables)) k there) .0, eqb-false (countOf (s .tables) k) (maximumOf (s .tables) k) room)) (I .facts)) refl refl
+        (omega (arith, I .facts .counts k (leb-false (semCount (s .tables)) k there) .0, eqb-false (countOf (s .tables) k) (maximumOf (s .tables) k) room)) (I .facts)) refl refl
     post-inv k (some w) e there room = end-inv (endWaits (s .tables) (eqb w) (λ i. granted)) (eqb w) (s .clock)
         (facts-end (s .tables) (eqb w) (λ i. granted) (λ i q. inl refl) (I .facts)) (I .clock-in) refl refl
 
@@ -220,24 +207,24 @@ of-caller o p r e = rw e refl
 
 module _ (s : State) (I : Inv s) where
   accept-inv : (x : Step) → firstRow (refusals s x) ≡ none → Inv (finish s (effect s x))
-  unfolding effect refusals
+  unfolding effect refusals ownerAwaited
   accept-inv (task p) e =
       let a = passed _ _ e in
       let b = passed _ _ (a .1) in
       let c = passed _ _ (b .1) in
-      task-inv s I (a .0) p _ (leb-false levels p (b .0)) (leb-false maxTasks (tasks (s .tables)) (c .0))
+      task-inv s I (a .0) p _ (leb-false levels p (b .0)) (leb-false maxTasks (taskCount (s .tables)) (c .0))
   accept-inv (mutex k) e =
       let a = passed _ _ e in
       let b = passed _ _ (a .1) in
       let c = passed _ _ (b .1) in
-      mutex-inv s I (a .0) k _ (leb-false kinds k (b .0)) (leb-false maxMutexes (mutexes (s .tables)) (c .0))
+      mutex-inv s I (a .0) k _ (leb-false kinds k (b .0)) (leb-false maxMutexes (mutexCount (s .tables)) (c .0))
   accept-inv (sem count max) e =
       let a = passed _ _ e in
       let b = passed _ _ (a .1) in
       let c = passed _ _ (b .1) in
       let d = or-none (eqb max 0) (ltb max count) (b .0) in
       sem-inv s I (a .0) count max _ (omega (arith, eqb-false max 0 (d .0))) (ltb-false max count (d .1))
-      (leb-false maxSemaphores (semaphores (s .tables)) (c .0))
+      (leb-false maxSemaphores (semCount (s .tables)) (c .0))
   accept-inv start e = start-inv s I (passed _ _ e .0)
   accept-inv (lock m t) e =
       let a = passed _ _ e in
@@ -250,7 +237,7 @@ module _ (s : State) (I : Inv s) where
       let k = passed _ _ (h .1) in
       called-by (λ y. Inv (finish s y)) s (s .running) (λ r. lockBy s m t r (ownerOf (s .tables) m)) (b .0) (λ r run.
       lock-inv s I (a .0) r m t (ownerOf (s .tables) m) run refl (c .0) (not-false (isWaitingTime t) (d .0)) (g .0) (h .0)
-      (ap (λ z. taken s m and z) (sym (of-caller (s .running) (λ q. closesRing (s .tables) q m) r run)) ∙ k .0))
+      (ap (λ z. taken s m and z) (sym (of-caller (s .running) (λ q. closesRing (s .tables) q (mutexOf m)) r run)) ∙ k .0))
   accept-inv (unlock m) e =
       let a = passed _ _ e in
       let b = passed _ _ (a .1) in
@@ -277,7 +264,7 @@ module _ (s : State) (I : Inv s) where
       let c = passed _ _ (b .1) in
       let d = passed _ _ (c .1) in
       called-by (λ y. Inv (finish s y)) s (s .running) (λ r. callerWaits s r time t 0) (b .0) (λ r run.
-      wait-inv s I (a .0) r time t 0 run (d .0) tt (left-sleep t (not-false (isSleepTime t) (c .0))) (λ m q. sleep-no-mutex q))
+      wait-inv s I (a .0) r time t 0 run (d .0) tt (left-sleep t (not-false (isSleepTime t) (c .0))) (ring-none (s .tables) (I .facts) r time refl))
   accept-inv yield e =
       let a = passed _ _ e in
       let b = passed _ _ (a .1) in
@@ -307,7 +294,7 @@ module _ (s : State) (I : Inv s) where
 
 -- the fresh state is sound
 pub fresh-inv : Inv fresh
-unfolding fresh next andThen mutexAwaited occ waitCount
+unfolding fresh next ofWait occ waitCount
 fresh-inv = record {
   facts = record {
     wait-column = refl;

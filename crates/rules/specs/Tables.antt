@@ -1,84 +1,103 @@
 -- "The parts of a state": the tables of tasks, mutexes and semaphores, and the order of the waits.
 use mathlib.Core.List.{List}
-use mathlib.Core.Option.{Option, none}
+use mathlib.Core.Bool.{Bool, cond}
+use mathlib.Core.Option.{Option, none, some}
 use Prim.Native.Nat.{ℕ}
+use lib.Dec.{eqb}
 use lib.ListN.{length, getD}
+use Rattle.rules.specs.Sizes.{onMutex, onSemaphore, onTime}
 
 -- what a task waits for
 pub data Awaited : Type 0 where
   mutexOf semOf : ℕ → Awaited
   time : Awaited
 
+-- the same as two numbers: the kind of wait, and the object's number, 0 for time
+unfoldable pub awaitedKind : Awaited → ℕ
+awaitedKind (mutexOf m) = onMutex
+awaitedKind (semOf k) = onSemaphore
+awaitedKind time = onTime
+
+unfoldable pub awaitedObject : Awaited → ℕ
+awaitedObject (mutexOf m) = m
+awaitedObject (semOf k) = k
+awaitedObject time = 0
+
+-- what two numbers stand for
+unfoldable pub awaitedBy : ℕ → ℕ → Option Awaited
+awaitedBy kind object =
+    cond (eqb kind onMutex) (some (mutexOf object))
+    (cond (eqb kind onSemaphore) (some (semOf object))
+    (cond (eqb kind onTime) (some time) none))
+
+abbrev pub isSleep : Awaited → Bool
+isSleep a = eqb (awaitedKind a) onTime
+
 -- a wait, with the ticks left, or none where it is forever
 pub record Wait : Type 0 where
   pub on : Awaited
   pub left : Option ℕ
 
--- one column for each part, a task's, a mutex's, a semaphore's number being its place
-pub record Tables : Type 0 where
+-- a table has one column for each part, a task's, a mutex's, a semaphore's number being its place
+pub record TaskTable : Type 0 where
   pub priorities : List ℕ
   pub outcomes : List ℕ
   pub waits : List (Option Wait)
   -- "the waiting tasks in the order in which their waits began"
   pub waiting : List ℕ
+
+pub record MutexTable : Type 0 where
   pub kinds : List ℕ
   pub owners : List (Option ℕ)
+
+pub record SemTable : Type 0 where
   pub counts : List ℕ
   pub maxima : List ℕ
 
--- one setter for each column
-abbrev pub withPriorities : Tables → List ℕ → Tables
-withPriorities t x = record { priorities = x; outcomes = t .outcomes; waits = t .waits; waiting = t .waiting; kinds = t .kinds; owners = t .owners; counts = t .counts; maxima = t .maxima }
+-- one table for each kind of object
+pub record Tables : Type 0 where
+  pub tasks : TaskTable
+  pub mutexes : MutexTable
+  pub semaphores : SemTable
 
-abbrev pub withOutcomes : Tables → List ℕ → Tables
-withOutcomes t x = record { priorities = t .priorities; outcomes = x; waits = t .waits; waiting = t .waiting; kinds = t .kinds; owners = t .owners; counts = t .counts; maxima = t .maxima }
+-- one setter for each table
+abbrev pub withTasks : Tables → TaskTable → Tables
+withTasks t x = record { tasks = x; mutexes = t .mutexes; semaphores = t .semaphores }
 
-abbrev pub withWaits : Tables → List (Option Wait) → Tables
-withWaits t x = record { priorities = t .priorities; outcomes = t .outcomes; waits = x; waiting = t .waiting; kinds = t .kinds; owners = t .owners; counts = t .counts; maxima = t .maxima }
+abbrev pub withMutexes : Tables → MutexTable → Tables
+withMutexes t x = record { tasks = t .tasks; mutexes = x; semaphores = t .semaphores }
 
-abbrev pub withWaiting : Tables → List ℕ → Tables
-withWaiting t x = record { priorities = t .priorities; outcomes = t .outcomes; waits = t .waits; waiting = x; kinds = t .kinds; owners = t .owners; counts = t .counts; maxima = t .maxima }
-
-abbrev pub withKinds : Tables → List ℕ → Tables
-withKinds t x = record { priorities = t .priorities; outcomes = t .outcomes; waits = t .waits; waiting = t .waiting; kinds = x; owners = t .owners; counts = t .counts; maxima = t .maxima }
-
-abbrev pub withOwners : Tables → List (Option ℕ) → Tables
-withOwners t x = record { priorities = t .priorities; outcomes = t .outcomes; waits = t .waits; waiting = t .waiting; kinds = t .kinds; owners = x; counts = t .counts; maxima = t .maxima }
-
-abbrev pub withCounts : Tables → List ℕ → Tables
-withCounts t x = record { priorities = t .priorities; outcomes = t .outcomes; waits = t .waits; waiting = t .waiting; kinds = t .kinds; owners = t .owners; counts = x; maxima = t .maxima }
-
-abbrev pub withMaxima : Tables → List ℕ → Tables
-withMaxima t x = record { priorities = t .priorities; outcomes = t .outcomes; waits = t .waits; waiting = t .waiting; kinds = t .kinds; owners = t .owners; counts = t .counts; maxima = x }
+abbrev pub withSemaphores : Tables → SemTable → Tables
+withSemaphores t x = record { tasks = t .tasks; mutexes = t .mutexes; semaphores = x }
 
 -- how many there are of each
-abbrev pub tasks : Tables → ℕ
-tasks t = length (t .priorities)
+abbrev pub taskCount : Tables → ℕ
+taskCount t = length (t .tasks .priorities)
 
-abbrev pub mutexes : Tables → ℕ
-mutexes t = length (t .owners)
+abbrev pub mutexCount : Tables → ℕ
+mutexCount t = length (t .mutexes .owners)
 
-abbrev pub semaphores : Tables → ℕ
-semaphores t = length (t .counts)
+abbrev pub semCount : Tables → ℕ
+semCount t = length (t .semaphores .counts)
 
 -- the columns read at a place, with what an unused place holds
 abbrev pub priorityOf : Tables → ℕ → ℕ
-priorityOf t i = getD (t .priorities) i 0
+priorityOf t i = getD (t .tasks .priorities) i 0
 
 abbrev pub outcomeOf : Tables → ℕ → ℕ
-outcomeOf t i = getD (t .outcomes) i 0
+outcomeOf t i = getD (t .tasks .outcomes) i 0
 
 abbrev pub waitOf : Tables → ℕ → Option Wait
-waitOf t i = getD (t .waits) i none
+waitOf t i = getD (t .tasks .waits) i none
 
 abbrev pub kindOf : Tables → ℕ → ℕ
-kindOf t m = getD (t .kinds) m 0
+kindOf t m = getD (t .mutexes .kinds) m 0
 
 abbrev pub ownerOf : Tables → ℕ → Option ℕ
-ownerOf t m = getD (t .owners) m none
+ownerOf t m = getD (t .mutexes .owners) m none
 
 abbrev pub countOf : Tables → ℕ → ℕ
-countOf t k = getD (t .counts) k 0
+countOf t k = getD (t .semaphores .counts) k 0
 
 abbrev pub maximumOf : Tables → ℕ → ℕ
-maximumOf t k = getD (t .maxima) k 0
+maximumOf t k = getD (t .semaphores .maxima) k 0

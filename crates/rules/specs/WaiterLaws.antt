@@ -1,5 +1,5 @@
 -- Waiters, the best waiter, and where each task stands after waits end.
-use mathlib.Core.Path.{_≡_, refl, ap, sym, _∙_}
+use mathlib.Core.Path.{_≡_, refl, ap, sym, _∙_, subst}
 use mathlib.Core.List.{[]}
 use mathlib.Core.Bool.{Bool, true, false, not}
 use mathlib.Core.Logic.{inl, inr}
@@ -10,15 +10,15 @@ use native.Mathlib.Decide.{decLt}
 use borrow.Author.Tests.{eqb-true, eq-eqb}
 use Rattle.lists.specs.Count.{occ, below}
 use Rattle.lists.specs.Order.{keep, leastFirst}
-use Rattle.lists.specs.TestLaws.{which, clash, none-some, some-same}
+use Rattle.lists.specs.TestLaws.{which, clash, by-test, none-some, some-same, and-l, and-r, true-and}
 use Rattle.lists.specs.OrderLaws.{occ-kept, occ-dropped, least-some, least-none, keep-in}
 use Rattle.lists.specs.FirstLaws.{first-is-least}
 use Rattle.chains.specs.Chain.{From, here, on}
 use Rattle.chains.specs.ChainLaws.{from-some}
 use Rattle.chains.specs.LeastLaws.{leading-att}
 use Rattle.rules.specs.Sizes.{levels}
-use Rattle.rules.specs.Tables.{Awaited, mutexOf, semOf, time, Wait, Tables, tasks, priorityOf, waitOf, countOf}
-use Rattle.rules.specs.Levels.{mutexIn, mutexAwaited, andThen, lends, levelIn, sameAwaited, waitIsFor, awaits, waitersOf, bestWaiter}
+use Rattle.rules.specs.Tables.{Awaited, mutexOf, semOf, time, awaitedKind, awaitedObject, awaitedBy, isSleep, Wait, Tables, taskCount, priorityOf, waitOf}
+use Rattle.rules.specs.Levels.{heirAwaited, ofWait, lends, levelIn, sameAwaited, waitIsFor, awaits, waitersOf, bestWaiter}
 use Rattle.rules.specs.State.{State, withTables}
 use Rattle.rules.specs.Effect.{ended, isDue, expiry, outcomeDue}
 use Rattle.rules.specs.Sound.{waitCount}
@@ -41,27 +41,41 @@ unfolding isDue waitCount
 due-waits none e = absurd (clash e refl)
 due-waits (some w) e = refl
 
--- a wait whose mutex is m is a wait for m
-pub mutex-awaits : (w : Option Wait) (m : ℕ) → mutexAwaited w ≡ some m → waitIsFor w (mutexOf m) ≡ true
-unfolding mutexAwaited waitIsFor mutexIn sameAwaited
-mutex-awaits none m e = none-some refl e
-mutex-awaits (some w) m e = go (w .on) e
-  where
-    go : (a : Awaited) → mutexIn a ≡ some m → sameAwaited a (mutexOf m) ≡ true
-    go (mutexOf n) q = eq-eqb n m (some-same q)
-    go (semOf k) q = none-some refl q
-    go time q = none-some refl q
+-- kind and object tell what is awaited
+awaited-by : (a : Awaited) → awaitedBy (awaitedKind a) (awaitedObject a) ≡ some a
+unfolding awaitedBy awaitedKind awaitedObject
+awaited-by (mutexOf m) = refl
+awaited-by (semOf k) = refl
+awaited-by time = refl
 
--- who waits for the semaphore k found it without credit
-pub sem-blocked : (t : Tables) (k : ℕ) (w : Option Wait) → Blocked t w → waitIsFor w (semOf k) ≡ true → countOf t k ≡ 0
-unfolding waitIsFor sameAwaited
-sem-blocked t k none b e = absurd (clash e refl)
-sem-blocked t k (some w) b e = go (w .on) b e
+pub same-awaited : (a b : Awaited) → sameAwaited a b ≡ true → a ≡ b
+unfolding sameAwaited
+same-awaited a b e = some-same (sym (awaited-by a) ∙ ap (λ k. awaitedBy k (awaitedObject a)) kind ∙ ap (awaitedBy (awaitedKind b)) object ∙ awaited-by b)
   where
-    go : (a : Awaited) → Unavailable t a → sameAwaited a (semOf k) ≡ true → countOf t k ≡ 0
-    go (mutexOf m) u q = absurd (clash q refl)
-    go (semOf j) u q = ap (countOf t) (sym (eqb-true j k q)) ∙ u .1
-    go time u q = absurd (clash q refl)
+    kind : awaitedKind a ≡ awaitedKind b
+    kind = eqb-true _ _ (and-l _ _ e)
+
+    object : awaitedObject a ≡ awaitedObject b
+    object = eqb-true _ _ (and-r _ _ e)
+
+pub awaited-self : (a : Awaited) → sameAwaited a a ≡ true
+unfolding sameAwaited
+awaited-self a = true-and _ _ (eq-eqb (awaitedKind a) (awaitedKind a) refl) (eq-eqb (awaitedObject a) (awaitedObject a) refl)
+
+-- who waits for a found it as one finds a
+pub awaited-blocked : (t : Tables) (a : Awaited) (w : Option Wait) → Blocked t w → waitIsFor w a ≡ true → Unavailable t a
+unfolding waitIsFor
+awaited-blocked t a none b e = absurd (clash e refl)
+awaited-blocked t a (some w) b e = subst (Unavailable t) (same-awaited (w .on) a e) b
+
+-- and lends to whom a wait for a lends
+pub awaits-lends : (t : Tables) (a : Awaited) (i : ℕ) → awaits t a i ≡ true → lends t i ≡ heirAwaited t a
+unfolding lends ofWait waitIsFor
+awaits-lends t a i e = go (waitOf t i) e
+  where
+    go : (w : Option Wait) → waitIsFor w a ≡ true → ofWait (heirAwaited t) w ≡ heirAwaited t a
+    go none e = absurd (clash e refl)
+    go (some w) e = ap (heirAwaited t) (same-awaited (w .on) a e)
 
 pub not-due : isDue none ≡ false
 unfolding isDue
@@ -74,32 +88,30 @@ outcome-due none = inl refl
 outcome-due (some w) = go (w .on)
   where
     go : (a : Awaited) → Outcome none (expiry a)
-    go (mutexOf m) = inr (inl refl)
-    go (semOf k) = inr (inl refl)
-    go time = inl refl
+    go a = by-test (Outcome none) (isSleep a) (λ e. inl refl) (λ e. inr (inl refl))
 
 module _ (t : Tables) (F : Facts t) where
   -- where nobody waits, a level is the own priority
-  pub level-alone : ((j : ℕ) → waitOf t j ≡ none) → (i : ℕ) → i < tasks t → levelIn t i ≡ priorityOf t i
-  unfolding levelIn lends andThen mutexAwaited
+  pub level-alone : ((j : ℕ) → waitOf t j ≡ none) → (i : ℕ) → i < taskCount t → levelIn t i ≡ priorityOf t i
+  unfolding levelIn lends ofWait
   level-alone h i k = let a = leading-att (priorityOf t) (lends-ended t F) i k in a .3 ∙ ap (priorityOf t) (stop (a .2) refl)
     where
       stop : {o : Option ℕ} {j : ℕ} → From (lends t) o j → {i : ℕ} → o ≡ some i → i ≡ j
       stop here e = sym (some-same e)
       stop (on {i = j} g) e = none-some (rw (h j) refl) (from-some g .1)
 
-  pub wait-in : (i : ℕ) → 1 ≤ waitCount (waitOf t i) → i < tasks t
+  pub wait-in : (i : ℕ) → 1 ≤ waitCount (waitOf t i) → i < taskCount t
   unfolding waitCount
-  wait-in i m = elim (decLt i (tasks t)) [ yes h ↦ h | no h ↦ absurd (omega (arith, m, ap waitCount (wait-out t (F .wait-column) i (omega arith)))) ]
+  wait-in i m = elim (decLt i (taskCount t)) [ yes h ↦ h | no h ↦ absurd (omega (arith, m, ap waitCount (wait-out t (F .wait-column) i (omega arith)))) ]
 
   module _ (a : Awaited) where
     pub waiter-in : (i : ℕ) → awaits t a i ≡ true → occ i (waitersOf t a) ≡ 1
     unfolding waitersOf
-    waiter-in i e = occ-kept (awaits t a) i (t .waiting) e ∙ (F .waiting i ∙ awaits-waits (waitOf t i) a e)
+    waiter-in i e = occ-kept (awaits t a) i (t .tasks .waiting) e ∙ (F .waiting i ∙ awaits-waits (waitOf t i) a e)
 
     pub in-waiter : (i : ℕ) → 1 ≤ occ i (waitersOf t a) → awaits t a i ≡ true
     unfolding waitersOf
-    in-waiter i h = keep-in (awaits t a) i (t .waiting) h .0
+    in-waiter i h = keep-in (awaits t a) i (t .tasks .waiting) h .0
 
     -- the best waiter is the oldest of those of least level
     pub best-is-least : bestWaiter t a ≡ leastFirst (levelIn t) (waitersOf t a)
@@ -117,10 +129,10 @@ module _ (t : Tables) (F : Facts t) where
     ]
 
 -- those whose waits end leave the order of waits and are ready
-pub places-end : (s : State) (t : Tables) (p : ℕ → Bool) → tasks t ≡ tasks (s .tables) → t .waiting ≡ keep (λ i. not (p i)) (s .tables .waiting)
+pub places-end : (s : State) (t : Tables) (p : ℕ → Bool) → taskCount t ≡ taskCount (s .tables) → t .tasks .waiting ≡ keep (λ i. not (p i)) (s .tables .tasks .waiting)
     → Places s [] → Places (withTables s t) (ended (s .tables) p)
 unfolding occ
 places-end s t p e f h i = elim (which (p i)) [
-  | inl q ↦ omega (arith, h i, ap (occ i) f, ap (below i) e, occ-kept p i (s .tables .waiting) q, occ-dropped (λ j. not (p j)) i (s .tables .waiting) (rw q refl))
-  | inr q ↦ omega (arith, h i, ap (occ i) f, ap (below i) e, occ-dropped p i (s .tables .waiting) q, occ-kept (λ j. not (p j)) i (s .tables .waiting) (rw q refl))
+  | inl q ↦ omega (arith, h i, ap (occ i) f, ap (below i) e, occ-kept p i (s .tables .tasks .waiting) q, occ-dropped (λ j. not (p j)) i (s .tables .tasks .waiting) (rw q refl))
+  | inr q ↦ omega (arith, h i, ap (occ i) f, ap (below i) e, occ-dropped p i (s .tables .tasks .waiting) q, occ-kept (λ j. not (p j)) i (s .tables .tasks .waiting) (rw q refl))
 ]

@@ -17,7 +17,7 @@ use Rattle.lists.specs.TestLaws.{and-l, and-r, true-and, or-true, same-test, an
 use Rattle.lists.specs.CountLaws.{occ-head}
 use Rattle.lists.specs.OrderLaws.{inside-true}
 use Rattle.rules.specs.Sizes.{maxTasks, maxMutexes, maxSemaphores, maxHold, granted}
-use Rattle.rules.specs.Tables.{tasks, mutexes, semaphores, outcomeOf, ownerOf}
+use Rattle.rules.specs.Tables.{taskCount, mutexCount, semCount, outcomeOf, ownerOf}
 use Rattle.rules.specs.Levels.{levelIn}
 use Rattle.rules.specs.Sound.{columnsb, sizesb, rangesb, clockb, ascendingb, noneIn, runsb, holdb, urgentTop, urgentb, setUpb, tablesb, soundb}
 use Rattle.task_lists.specs.TaskList.{noId, items, keyOf}
@@ -108,9 +108,9 @@ module _ (k : State) (T : Typed k) (tidy : tidyb k ≡ true) where
   sizes-true : sizesb (viewTables k) ≡ true
   unfolding sizesb
   sizes-true =
-      true-and _ _ (le-leb (tasks (viewTables k)) maxTasks (omega (arith, view-tasks k T tidy, tasks-fit k tidy)))
-      (true-and _ _ (le-leb (mutexes (viewTables k)) maxMutexes (omega (arith, view-mutexes k T tidy, mutexes-fit k tidy)))
-      (le-leb (semaphores (viewTables k)) maxSemaphores (omega (arith, view-semaphores k T tidy, semaphores-fit k tidy))))
+      true-and _ _ (le-leb (taskCount (viewTables k)) maxTasks (omega (arith, view-tasks k T tidy, tasks-fit k tidy)))
+      (true-and _ _ (le-leb (mutexCount (viewTables k)) maxMutexes (omega (arith, view-mutexes k T tidy, mutexes-fit k tidy)))
+      (le-leb (semCount (viewTables k)) maxSemaphores (omega (arith, view-semaphores k T tidy, semaphores-fit k tidy))))
 
   clock-true : clockb (view k) ≡ true
   unfolding clockb view
@@ -146,10 +146,10 @@ module _ (k : State) (T : Typed k) (tidy : tidyb k ≡ true) where
       ties-same-key (keyOf (k .tasks .level)) (levelIn (viewTables k)) (items (k .ready)) level-ready,
     )
       where
-        unowned : allb (k .mutexes .n) (λ j. eqb (ownerAt (k .mutexes) j) noId) ≡ allb (mutexes (viewTables k)) (λ j. not (someb (ownerOf (viewTables k) j)))
+        unowned : allb (k .mutexes .n) (λ j. eqb (ownerAt (k .mutexes) j) noId) ≡ allb (mutexCount (viewTables k)) (λ j. not (someb (ownerOf (viewTables k) j)))
         unowned = all-same _ _ _ _ (sym (view-mutexes k T tidy)) (λ j h. rw (view-owner k T tidy j) (no-id (ownerAt (k .mutexes) j) (owner-id k T tidy j)))
 
-        granted-all : allb (k .tasks .n) (λ i. eqb (keyOf (k .tasks .outcome) i) granted) ≡ allb (tasks (viewTables k)) (λ i. eqb (outcomeOf (viewTables k) i) granted)
+        granted-all : allb (k .tasks .n) (λ i. eqb (keyOf (k .tasks .outcome) i) granted) ≡ allb (taskCount (viewTables k)) (λ i. eqb (outcomeOf (viewTables k) i) granted)
         granted-all = all-same _ _ _ _ (sym (view-tasks k T tidy)) (λ i h. ap (λ (x : ℕ). eqb x granted) (sym (view-outcome k T tidy i h)))
 
     phase-same : cond (eqb (k .started) 0) (setUpIn k) (startedIn k) ≡ cond (view k .started) (runsb (view k) and holdb (view k) and urgentb (view k)) (setUpb (view k))

@@ -8,11 +8,11 @@ use Rattle.lists.specs.Test.{_and_, _or_, allb}
 use Rattle.lists.specs.Order.{ascb, tiesb, inside}
 use Rattle.lists.specs.Table.{filled}
 use Rattle.chains.specs.Chain.{endsb}
-use Rattle.rules.specs.Sizes.{maxTasks, levels, kinds, maxTicks, granted, pending, timedOut, flushed}
+use Rattle.rules.specs.Sizes.{maxTasks, levels, kinds, maxTicks, granted, pending, timedOut, flushed, onMutex, onSemaphore, onTime}
 use Rattle.rules.specs.Levels.{next}
 use Rattle.task_lists.specs.TaskList.{noId, items, keyOf, counted}
 use Rattle.walks.specs.Walk.{nextIn}
-use Rattle.record.specs.Record.{ticksLeft, onMutex, onSemaphore, onTime}
+use Rattle.record.specs.Record.{ticksLeft}
 use Rattle.record.specs.SoundRecord.{tidyb}
 use Rattle.record.specs.Reads.{ownerAt, kindAt, nextAt, newLevels, firstId, countAt, maximumAt}
 use Rattle.record.specs.declared.State.{State}  -- keep

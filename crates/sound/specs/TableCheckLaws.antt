@@ -16,15 +16,15 @@ use Rattle.lists.specs.Order.{inside}
 use Rattle.lists.specs.Table.{filled}
 use Rattle.lists.specs.TestLaws.{which, and-l, true-and, same-test, and-same, all-same, all-and}
 use Rattle.lists.specs.CountLaws.{eqn-at, eqn-other}
-use Rattle.rules.specs.Sizes.{maxTasks, levels, kinds, maxTicks, granted, pending, timedOut, flushed}
-use Rattle.rules.specs.Tables.{Tables, tasks, mutexes, semaphores, priorityOf, outcomeOf, waitOf, kindOf, ownerOf, countOf}
+use Rattle.rules.specs.Sizes.{maxTasks, levels, kinds, maxTicks, granted, pending, timedOut, flushed, onMutex, onSemaphore, onTime}
+use Rattle.rules.specs.Tables.{awaitedKind, awaitedBy, Tables, taskCount, mutexCount, semCount, priorityOf, outcomeOf, waitOf, kindOf, ownerOf, countOf}
 use Rattle.rules.specs.Levels.{next}
 use Rattle.rules.specs.Sound.{waitCount, waitingb, placesb, unavailableb, leftb, blockedb, timedb, waitersb, timesb, existsb, ownersb, noRingb, countsb, outcomeb, outcomesb}
 use Rattle.task_lists.specs.TaskList.{noId, items, keyOf, counted}
 use Rattle.task_lists.specs.TaskListLaws.{length-counted, getD-counted}
 use Rattle.walks.specs.Walk.{taskAt, nextIn}
 use Rattle.walks.specs.WalkLaws.{task-in, ends-ext}
-use Rattle.record.specs.Record.{ticksLeft, onMutex, onSemaphore, onTime, leftIn, waitIn, waitAt, viewTables, view}
+use Rattle.record.specs.Record.{waitWith, ticksLeft, leftIn, waitIn, waitAt, viewTables, view}
 use Rattle.record.specs.SoundRecord.{tidyb, levelsb}
 use Rattle.record.specs.Reads.{ownerAt, nextAt, countAt}
 use Rattle.sound.specs.Checks.{prioritiesIn, mutexesIn, countIn, countsIn, blockedAt, timedAt, outcomeAt, taskIn, tasksIn, placeAt, placesIn, ringless, levelsIn}
@@ -52,8 +52,8 @@ some-id x c = elim c [
 -- one wait, by the places of its task
 blocked-wait : (t : Tables) (kind object : ℕ) (left : Option ℕ)
     → blockedb t (waitIn kind object left)
-    ≡ cond (eqb kind onMutex) (someb (ownerOf t object)) (cond (eqb kind onSemaphore) (ltb object (semaphores t) and eqb (countOf t object) 0) true)
-unfolding waitIn blockedb unavailableb
+    ≡ cond (eqb kind onMutex) (someb (ownerOf t object)) (cond (eqb kind onSemaphore) (ltb object (semCount t) and eqb (countOf t object) 0) true)
+unfolding waitWith awaitedBy blockedb unavailableb
 blocked-wait t kind object left = elim (which (eqb kind onMutex)) [
   | inl e ↦ rw e refl
   | inr e ↦ rw e (elim (which (eqb kind onSemaphore)) [
@@ -64,7 +64,7 @@ blocked-wait t kind object left = elim (which (eqb kind onMutex)) [
 
 timed-wait : (kind object timed until clock : ℕ) → kind ≤ onTime → (kind ≡ 0 → timed ≡ 0)
     → cond (eqb timed 1) (ltb 0 (ticksLeft until clock) and leb (ticksLeft until clock) maxTicks) (not (eqb kind onTime)) ≡ timedb (waitIn kind object (leftIn timed until clock))
-unfolding waitIn leftIn timedb leftb
+unfolding waitWith awaitedBy awaitedKind leftIn timedb leftb
 timed-wait zero object timed until clock h z = rw (z refl) refl
 timed-wait (suc zero) object timed until clock h z = elim (which (eqb timed 1)) [ inl e ↦ rw e refl | inr e ↦ rw e refl ]
 timed-wait (suc (suc zero)) object timed until clock h z = elim (which (eqb timed 1)) [ inl e ↦ rw e refl | inr e ↦ rw e refl ]
@@ -73,7 +73,7 @@ timed-wait (suc (suc (suc (suc kind)))) object timed until clock h z = absurd (o
 
 outcome-wait : (kind object : ℕ) (left : Option ℕ) (n : ℕ) → kind ≤ onTime
     → cond (eqb kind 0) (eqb n granted or eqb n timedOut or eqb n flushed) (eqb n pending) ≡ outcomeb (waitIn kind object left) n
-unfolding waitIn outcomeb
+unfolding waitWith awaitedBy outcomeb
 outcome-wait zero object left n h = refl
 outcome-wait (suc zero) object left n h = refl
 outcome-wait (suc (suc zero)) object left n h = refl
@@ -81,7 +81,7 @@ outcome-wait (suc (suc (suc zero))) object left n h = refl
 outcome-wait (suc (suc (suc (suc kind)))) object left n h = absurd (omega arith)
 
 count-wait : (kind object : ℕ) (left : Option ℕ) → kind ≤ onTime → cond (eqb kind 0) 0 1 ≡ waitCount (waitIn kind object left)
-unfolding waitIn waitCount
+unfolding waitWith awaitedBy waitCount
 count-wait zero object left h = refl
 count-wait (suc zero) object left h = refl
 count-wait (suc (suc zero)) object left h = refl
@@ -132,18 +132,18 @@ regroup true true true false b = refl
 
 module _ (k : State) (T : Typed k) (tidy : tidyb k ≡ true) where
   -- ranges and owners
-  pub priorities-same : prioritiesIn (k .tasks) ≡ allb (tasks (viewTables k)) (λ i. ltb (priorityOf (viewTables k) i) levels)
+  pub priorities-same : prioritiesIn (k .tasks) ≡ allb (taskCount (viewTables k)) (λ i. ltb (priorityOf (viewTables k) i) levels)
   unfolding prioritiesIn
   priorities-same = all-same _ _ _ _ (sym (view-tasks k T tidy)) (λ i h. ap (λ (x : ℕ). ltb x levels) (sym (view-priority k T tidy i h)))
 
   mutex-same : (j : ℕ) → j < k .mutexes .n
-      → mutexInRange (k .mutexes) (k .tasks .n) j ≡ ltb (kindOf (viewTables k) j) kinds and existsb (tasks (viewTables k)) (ownerOf (viewTables k) j)
+      → mutexInRange (k .mutexes) (k .tasks .n) j ≡ ltb (kindOf (viewTables k) j) kinds and existsb (taskCount (viewTables k)) (ownerOf (viewTables k) j)
   unfolding mutexInRange
   mutex-same j h = rw (view-kind k T tidy j h, view-owner k T tidy j, view-tasks k T tidy, exists-id (ownerAt (k .mutexes) j) (k .tasks .n) (owner-id k T tidy j)) refl
 
-  pub mutexes-same : mutexesIn (k .mutexes) (k .tasks .n) ≡ allb (mutexes (viewTables k)) (λ j. ltb (kindOf (viewTables k) j) kinds) and ownersb (viewTables k)
+  pub mutexes-same : mutexesIn (k .mutexes) (k .tasks .n) ≡ allb (mutexCount (viewTables k)) (λ j. ltb (kindOf (viewTables k) j) kinds) and ownersb (viewTables k)
   unfolding mutexesIn ownersb
-  mutexes-same = all-same _ _ _ _ (sym (view-mutexes k T tidy)) mutex-same ∙ all-and (mutexes (viewTables k)) _ _
+  mutexes-same = all-same _ _ _ _ (sym (view-mutexes k T tidy)) mutex-same ∙ all-and (mutexCount (viewTables k)) _ _
 
   pub counts-same : countsIn (k .semaphores) ≡ countsb (viewTables k)
   unfolding countsIn countIn countsb
@@ -158,7 +158,7 @@ module _ (k : State) (T : Typed k) (tidy : tidyb k ≡ true) where
         rw (le-ltb j (k .mutexes .n) l, view-owner k T tidy j) (ap (λ (x : ℕ). someb (taskAt x)) (sym (unused-owner k T tidy j l))))
   ]
 
-  credit-same : (j : ℕ) → ltb j (k .semaphores .n) and eqb (countAt (k .semaphores) j) 0 ≡ ltb j (semaphores (viewTables k)) and eqb (countOf (viewTables k) j) 0
+  credit-same : (j : ℕ) → ltb j (k .semaphores .n) and eqb (countAt (k .semaphores) j) 0 ≡ ltb j (semCount (viewTables k)) and eqb (countOf (viewTables k) j) 0
   credit-same j = rw (view-semaphores k T tidy) (and-same _ _ _ (λ u. ap (λ (x : ℕ). eqb x 0) (sym (view-count k T tidy j (ltb-true _ _ u)))))
 
   blocked-same : (i : ℕ) → i < k .tasks .n → blockedAt k i ≡ blockedb (viewTables k) (waitOf (viewTables k) i)
@@ -177,8 +177,8 @@ module _ (k : State) (T : Typed k) (tidy : tidyb k ≡ true) where
   unfolding tasksIn taskIn waitersb timesb outcomesb
   tasks-same =
       all-same _ _ _ _ (sym (view-tasks k T tidy)) (λ i h. rw (blocked-same i h, timed-same i h, outcome-same i h) refl)
-      ∙ all-and (tasks (viewTables k)) (λ i. blockedb (viewTables k) (waitOf (viewTables k) i)) (λ i. timedb (waitOf (viewTables k) i) and outcomeb (waitOf (viewTables k) i) (outcomeOf (viewTables k) i))
-      ∙ ap (waitersb (viewTables k) and_) (all-and (tasks (viewTables k)) (λ i. timedb (waitOf (viewTables k) i)) (λ i. outcomeb (waitOf (viewTables k) i) (outcomeOf (viewTables k) i)))
+      ∙ all-and (taskCount (viewTables k)) (λ i. blockedb (viewTables k) (waitOf (viewTables k) i)) (λ i. timedb (waitOf (viewTables k) i) and outcomeb (waitOf (viewTables k) i) (outcomeOf (viewTables k) i))
+      ∙ ap (waitersb (viewTables k) and_) (all-and (taskCount (viewTables k)) (λ i. timedb (waitOf (viewTables k) i)) (λ i. outcomeb (waitOf (viewTables k) i) (outcomeOf (viewTables k) i)))
 
   -- no ring, stored levels
   pub ring-same : ringless k ≡ noRingb (viewTables k)
@@ -235,6 +235,6 @@ module _ (k : State) (T : Typed k) (tidy : tidyb k ≡ true) where
   places-same =
       rw (inside-id (k .running) (k .tasks .n) (running-or k tidy))
       (ap (λ (b : Bool). inside (k .tasks .n) (items (k .waiting)) and inside (k .tasks .n) (items (k .ready)) and inside (k .tasks .n) (opt (taskAt (k .running))) and b)
-      (all-same _ _ _ _ (sym (view-tasks k T tidy)) place-same ∙ all-and (tasks (viewTables k)) _ _)
+      (all-same _ _ _ _ (sym (view-tasks k T tidy)) place-same ∙ all-and (taskCount (viewTables k)) _ _)
       ∙ regroup (inside (k .tasks .n) (items (k .waiting))) (inside (k .tasks .n) (items (k .ready))) (inside (k .tasks .n) (opt (taskAt (k .running)))) _ _
       ∙ rw (view-tasks k T tidy) refl)

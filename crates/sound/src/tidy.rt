@@ -3,7 +3,6 @@ ghost use mathlib.Core.Path.{_≡_};
 ghost use Prim.Native.Nat.{_<_};
 ghost use Rattle.rules.specs.Sizes.{maxTasks, maxMutexes, maxSemaphores};
 ghost use Rattle.record.specs.SoundRecord.{usedTaskb, unusedTaskb, taskPlaceb, tasksTidyb, idb, mutexPlaceb, mutexesTidyb, semPlaceb, semaphoresTidyb, taskListTidyb, tidyb};
-use task_lists::TaskList;
 use record::MAX_MUTEXES;
 use record::MAX_SEMAPHORES;
 use record::MAX_TASKS;
@@ -19,6 +18,7 @@ use record::Semaphores;
 use record::State;
 use record::TASKS;
 use record::Tasks;
+use task_lists::TaskList;
 
 // The places of a task that is there: an object only for a wait on one, a due time only for a timed wait.
 fn used_task(t: Tasks, i: usize) -> bool

@@ -21,7 +21,7 @@ use Rattle.lists.specs.OrderLaws.{keep-all}
 use Rattle.chains.specs.Chain.{on}
 use Rattle.lists.specs.TableLaws.{getD-fill}
 use Rattle.rules.specs.Sizes.{maxTasks}
-use Rattle.rules.specs.Tables.{tasks}
+use Rattle.rules.specs.Tables.{taskCount}
 use Rattle.rules.specs.Settle.{meet, dispatch}
 use Rattle.rules.specs.Invariant.{Facts, Places}
 use Rattle.task_lists.specs.TaskList.{places, noId, taskListOf, keyOf, inserted, idOf}
@@ -93,25 +93,25 @@ module _ (s : Model) (F : Facts (s .tables)) (on : s .started ≡ true) where
   up r l = rw on refl
 
   -- the ids at hand are those of tasks, each once
-  at-most : (r : Option ℕ) (l : List ℕ) → Places (placed s r l) [] → (i : ℕ) → occ i l + occ i (opt r) ≤ below i (tasks (s .tables))
+  at-most : (r : Option ℕ) (l : List ℕ) → Places (placed s r l) [] → (i : ℕ) → occ i l + occ i (opt r) ≤ below i (taskCount (s .tables))
   at-most r l P i = omega (arith, P i)
 
   first-in : (r : Option ℕ) (x : ℕ) (l : List ℕ) → Places (placed s r (x ∷ l)) [] → (x < maxTasks) × (occ x l ≡ 0)
   unfolding occ
   first-in r x l P = let b = at-most r (x ∷ l) P x in
-      (omega (arith, F .few-tasks, in-below x (tasks (s .tables)) (omega (arith, eqn-at x x refl))), omega (arith, eqn-at x x refl, below-le x (tasks (s .tables))))
+      (omega (arith, F .few-tasks, in-below x (taskCount (s .tables)) (omega (arith, eqn-at x x refl))), omega (arith, eqn-at x x refl, below-le x (taskCount (s .tables))))
 
   room : (r : Option ℕ) (x : ℕ) (l : List ℕ) → Places (placed s r (x ∷ l)) [] → length l < places
   room r x l P = omega (
     arith,
     F .few-tasks,
-    pigeonhole (tasks (s .tables)) (x ∷ l) (λ y. omega (arith, at-most r (x ∷ l) P y, below-le y (tasks (s .tables))))
-        (λ y m. in-below y (tasks (s .tables)) (omega (arith, at-most r (x ∷ l) P y))),
+    pigeonhole (taskCount (s .tables)) (x ∷ l) (λ y. omega (arith, at-most r (x ∷ l) P y, below-le y (taskCount (s .tables))))
+        (λ y m. in-below y (taskCount (s .tables)) (omega (arith, at-most r (x ∷ l) P y))),
   )
 
   runner-in : (r : ℕ) (l : List ℕ) → Places (placed s (some r) l) [] → r < maxTasks
   unfolding occ
-  runner-in r l P = omega (arith, F .few-tasks, in-below r (tasks (s .tables)) (omega (arith, at-most (some r) l P r, eqn-at r r refl)))
+  runner-in r l P = omega (arith, F .few-tasks, in-below r (taskCount (s .tables)) (omega (arith, at-most (some r) l P r, eqn-at r r refl)))
 
   displaced-list : (r x : ℕ) (l : List ℕ) → Places (placed s (some r) (x ∷ l)) []
       → inserted (without (taskListOf (x ∷ l)) x) ((packTasks (s .tables) (s .clock)) .level) (keyOf ((packTasks (s .tables) (s .clock)) .level) r) r ≡ taskListOf (insertHead (levelOf s) r l)

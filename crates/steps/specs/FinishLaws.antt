@@ -23,7 +23,7 @@ use Rattle.record.specs.PackLaws.{levelColumn, packWith}
 use Rattle.steps.specs.StageLaws.{unchanged-pack, settle-pack, lined-pack}
 use Rattle.steps.specs.DispatchLaws.{dispatch-pack}
 use Rattle.rules.specs.State.{State as Model, levelOf, placed, withTables, withClock, withHold}  -- keep
-use Rattle.rules.specs.Tables.{Tables, tasks}  -- keep
+use Rattle.rules.specs.Tables.{Tables, taskCount}  -- keep
 
 -- where everything is in its place, nobody moves
 meet-still : (s : Model) (o : Option ℕ) (l : List ℕ) → ((i : ℕ) → 1 ≤ occ i l → (r : ℕ) × (o ≡ some r))
@@ -40,7 +40,7 @@ dispatch-still s h = by-test (λ (z : Model). z ≡ s) (s .started) (λ e. meet-
 
 module _ (s : Model) (I : Inv s) where
   -- nothing moves, and no level changed
-  pub quiet-pack : (t : Tables) (c h : ℕ) → Facts t → tasks t ≡ tasks (s .tables) → t .waiting ≡ s .tables .waiting → ((i : ℕ) → levelIn t i ≡ levelOf s i)
+  pub quiet-pack : (t : Tables) (c h : ℕ) → Facts t → taskCount t ≡ taskCount (s .tables) → t .tasks .waiting ≡ s .tables .tasks .waiting → ((i : ℕ) → levelIn t i ≡ levelOf s i)
       → (h ≡ 0 → s .hold ≡ 0) → packWith (levelColumn (s .tables)) (withHold (withClock (withTables s t) c) h) ≡ pack (dispatch (settle (levelOf s) (withHold (withClock (withTables s t) c) h) []))
   quiet-pack t c h F n w same low = unchanged-pack s s′ n (I .ascending) (λ i h. same i)
       ∙ ap pack (sym (dispatch-still (settle (levelOf s) s′ []) (λ e. runs (I .when-started e) order)))
@@ -48,8 +48,8 @@ module _ (s : Model) (I : Inv s) where
       s′ : Model
       s′ = withHold (withClock (withTables s t) c) h
 
-      order : settledReady (tasks t) (levelOf s) (levelIn t) (s .ready) [] ≡ s .ready
-      order = settled-same (tasks t) (levelOf s) (levelIn t) (s .ready) (λ i m. same i) (I .ascending)
+      order : settledReady (taskCount t) (levelOf s) (levelIn t) (s .ready) [] ≡ s .ready
+      order = settled-same (taskCount t) (levelOf s) (levelIn t) (s .ready) (λ i m. same i) (I .ascending)
 
       runs : Started s → {l : List ℕ} → l ≡ s .ready → Runs (placed s′ (s .running) l) × Urgent (placed s′ (s .running) l)
       runs S e = (
@@ -58,11 +58,11 @@ module _ (s : Model) (I : Inv s) where
       )
 
   -- after settling, who may run is chosen
-  module _ (e : Model) (woken : List ℕ) (F : Facts (e .tables)) (n : tasks (e .tables) ≡ tasks (s .tables)) (P : Places e woken) where
+  module _ (e : Model) (woken : List ℕ) (F : Facts (e .tables)) (n : taskCount (e .tables) ≡ taskCount (s .tables)) (P : Places e woken) where
     chosen-pack : dispatched (pack (settle (levelOf s) e woken)) ≡ pack (dispatch (settle (levelOf s) e woken))
     unfolding occ
     chosen-pack = dispatch-pack (settle (levelOf s) e woken) F
-        (λ i. omega (arith, P i, occ-settled (tasks (e .tables)) (levelOf s) (levelOf e) (e .ready) woken i (omega (arith, P i)) (omega (arith, P i))))
+        (λ i. omega (arith, P i, occ-settled (taskCount (e .tables)) (levelOf s) (levelOf e) (e .ready) woken i (omega (arith, P i)) (omega (arith, P i))))
 
     module _ (a : Asc (levelOf s) (e .ready)) (flags : List ℕ) (f : (i : ℕ) → eqb (keyOf flags i) 1 ≡ member i woken) where
       pub settled-finish : dispatched (settled (packWith (levelColumn (s .tables)) e) flags) ≡ pack (dispatch (settle (levelOf s) e woken))
@@ -71,6 +71,6 @@ module _ (s : Model) (I : Inv s) where
       pub lined-finish : ((i : ℕ) → levelIn (e .tables) i ≡ levelOf s i) → dispatched (lined (packWith (levelColumn (s .tables)) e) flags) ≡ pack (dispatch (settle (levelOf s) e woken))
       lined-finish same = ap dispatched (lined-pack s e woken flags F n P a f (λ i h. same i)) ∙ chosen-pack
 
-  pub unchanged-finish : (e : Model) → Facts (e .tables) → tasks (e .tables) ≡ tasks (s .tables) → Places e [] → Asc (levelOf s) (e .ready)
+  pub unchanged-finish : (e : Model) → Facts (e .tables) → taskCount (e .tables) ≡ taskCount (s .tables) → Places e [] → Asc (levelOf s) (e .ready)
       → ((i : ℕ) → levelIn (e .tables) i ≡ levelOf s i) → dispatched (packWith (levelColumn (s .tables)) e) ≡ pack (dispatch (settle (levelOf s) e []))
   unchanged-finish e F n P a same = ap dispatched (unchanged-pack s e n a (λ i h. same i)) ∙ chosen-pack e [] F n P

@@ -15,11 +15,10 @@ use Rattle.lists.specs.Table.{pad}
 use Rattle.lists.specs.TestLaws.{which, by-test}
 use Rattle.lists.specs.CountLaws.{eqn-at, eqn-other}
 use Rattle.lists.specs.TableLaws.{length-pad, getD-pad}
-use Rattle.rules.specs.Sizes.{maxTasks}
+use Rattle.rules.specs.Sizes.{maxTasks, onTime}
 use Rattle.rules.specs.Step.{level, outcome}
 use Rattle.rules.specs.Effect.{due}
 use Rattle.task_lists.specs.TaskList.{keyOf, inserted, insertedFlagged}
-use Rattle.record.specs.Record.{onTime}
 use Rattle.steps.specs.Machine.{waitEnded, endedIf, endedWhere, single}
 use Rattle.steps.specs.DispatchLaws.{single-at}
 use Rattle.record.specs.declared.Tasks.{Tasks}  -- keep

@@ -8,12 +8,12 @@ use Rattle.lists.specs.Test.{allb}
 use Rattle.lists.specs.Count.{member}
 use Rattle.lists.specs.Order.{before}
 use Rattle.lists.specs.Table.{filled}
-use Rattle.rules.specs.Sizes.{maxTasks, maxMutexes, maxSemaphores, levels, kinds, maxHold, maxTicks, forever, granted, pending, timedOut, flushed}
+use Rattle.rules.specs.Sizes.{maxTasks, maxMutexes, maxSemaphores, levels, kinds, maxHold, maxTicks, forever, granted, pending, timedOut, flushed, onMutex, onSemaphore, onTime}
 use Rattle.rules.specs.Step.{level, outcome}
 use Rattle.rules.specs.Effect.{due}
 use Rattle.task_lists.specs.TaskList.{noId, items, keyOf, pushed, inserted, kept, insertedFlagged, counted, bestOf}
 use Rattle.walks.specs.Walk.{chainFrom}
-use Rattle.record.specs.Record.{ticksLeft, dueAt, onMutex, onSemaphore, onTime}
+use Rattle.record.specs.Record.{ticksLeft, dueAt}
 use Rattle.record.specs.declared.State.{State}  -- keep
 use Rattle.record.specs.declared.Tasks.{Tasks}  -- keep
 use Rattle.record.specs.declared.Mutexes.{Mutexes}  -- keep
@@ -23,7 +23,7 @@ use Rattle.record.specs.declared.Out.{Out}  -- keep
 use Rattle.record.specs.declared.Answer.the-variants.{Accepted, Refused}  -- keep
 use Rattle.record.specs.declared.Request.{Request}  -- keep
 use Rattle.record.specs.declared.Request.the-variants.{Task, Mutex, Sem, Start, Lock, Unlock, Pend, Post, Flush, Sleep, Yield, Hold, Free, Tick, Level, Outcome}  -- keep
-use Rattle.record.specs.Setters.{withTasks, withSemaphores, withClock, withMutexes, withReady, withWaiting, withStarted, withHold, withRunning, withLevel}
+use Rattle.record.specs.Setters.{putTasks, putSemaphores, putClock, putMutexes, putReady, putWaiting, putStarted, putHold, putRunning, putLevel}
 use Rattle.record.specs.Reads.{ownerAt, nextAt, newLevels, countAt, maximumAt, firstId}
 
 unfoldable pub waitBegun : Tasks → ℕ → ℕ → ℕ → ℕ → ℕ → Tasks
@@ -93,13 +93,13 @@ resettled q old new woken n =
 unfoldable pub settled : State → List ℕ → State
 settled k woken =
     let new = newLevels (k .tasks) (k .mutexes) in
-    withReady (withTasks k (withLevel (k .tasks) new)) (resettled (k .ready) (k .tasks .level) new woken (k .tasks .n))
+    putReady (putTasks k (putLevel (k .tasks) new)) (resettled (k .ready) (k .tasks .level) new woken (k .tasks .n))
 
 abbrev pub without : TaskList → ℕ → TaskList
 without q x = kept q (single x) 0
 
 abbrev pub ran : State → ℕ → TaskList → State
-ran k x q = withRunning (withReady k q) x
+ran k x q = putRunning (putReady k q) x
 
 unfoldable pub displaced : State → ℕ → ℕ → State
 displaced k r x = ran k x (inserted (without (k .ready) x) (k .tasks .level) (keyOf (k .tasks .level) r) r)
@@ -115,11 +115,11 @@ dispatched k =
 
 -- the waits of the flagged tasks end
 unfoldable pub woke : State → List ℕ → ℕ → ℕ → State
-woke k flags slept other = withWaiting (withTasks k (endedWhere (k .tasks) flags slept other maxTasks)) (kept (k .waiting) flags 0)
+woke k flags slept other = putWaiting (putTasks k (endedWhere (k .tasks) flags slept other maxTasks)) (kept (k .waiting) flags 0)
 
 -- they become ready, no level having changed
 unfoldable pub lined : State → List ℕ → State
-lined k flags = withReady k (insertedFlagged (k .ready) (k .tasks .level) flags (k .tasks .n))
+lined k flags = putReady k (insertedFlagged (k .ready) (k .tasks .level) flags (k .tasks .n))
 
 -- r waits, and nobody runs
 unfoldable pub timedFor : ℕ → ℕ
@@ -129,7 +129,7 @@ unfoldable pub dueFor : ℕ → ℕ → ℕ
 dueFor clock t = cond (eqb t forever) 0 (dueAt clock t)
 
 unfoldable pub blockedOn : State → ℕ → ℕ → ℕ → ℕ → State
-blockedOn k r kind object t = withRunning (withWaiting (withTasks k (waitBegun (k .tasks) r kind object (timedFor t) (dueFor (k .clock) t))) (pushed (k .waiting) r)) noId
+blockedOn k r kind object t = putRunning (putWaiting (putTasks k (waitBegun (k .tasks) r kind object (timedFor t) (dueFor (k .clock) t))) (pushed (k .waiting) r)) noId
 
 -- objects
 unfoldable pub ownerSet : Mutexes → ℕ → ℕ → Mutexes
@@ -180,7 +180,7 @@ taskStep k p =
     cond (eqb (k .started) 0)
     (cond (leb levels p) (refuse k 7 0)
     (cond (leb maxTasks (k .tasks .n)) (refuse k 8 0)
-    (accept (withReady (withTasks k (taskAdded (k .tasks) p)) (inserted (k .ready) ((taskAdded (k .tasks) p) .level) (p + 1) (k .tasks .n))) 0 (k .tasks .n))))
+    (accept (putReady (putTasks k (taskAdded (k .tasks) p)) (inserted (k .ready) ((taskAdded (k .tasks) p) .level) (p + 1) (k .tasks .n))) 0 (k .tasks .n))))
     (refuse k 4 0)
 
 unfoldable pub mutexStep : State → ℕ → Out
@@ -188,7 +188,7 @@ mutexStep k q =
     cond (eqb (k .started) 0)
     (cond (leb kinds q) (refuse k 7 0)
     (cond (leb maxMutexes (k .mutexes .n)) (refuse k 8 0)
-    (accept (withMutexes k (mutexAdded (k .mutexes) q)) 0 (k .mutexes .n))))
+    (accept (putMutexes k (mutexAdded (k .mutexes) q)) 0 (k .mutexes .n))))
     (refuse k 4 0)
 
 unfoldable pub semStep : State → ℕ → ℕ → Out
@@ -197,11 +197,11 @@ semStep k count max =
     (cond (eqb max 0) (refuse k 7 0)
     (cond (ltb max count) (refuse k 7 0)
     (cond (leb maxSemaphores (k .semaphores .n)) (refuse k 8 0)
-    (accept (withSemaphores k (semAdded (k .semaphores) count max)) 0 (k .semaphores .n)))))
+    (accept (putSemaphores k (semAdded (k .semaphores) count max)) 0 (k .semaphores .n)))))
     (refuse k 4 0)
 
 unfoldable pub startStep : State → Out
-startStep k = cond (eqb (k .started) 0) (accept (dispatched (withStarted k 1)) 0 0) (refuse k 4 0)
+startStep k = cond (eqb (k .started) 0) (accept (dispatched (putStarted k 1)) 0 0) (refuse k 4 0)
 
 -- a step that needs a caller
 unfoldable pub calledBy : State → Out → Out
@@ -219,15 +219,15 @@ lockStep k m t = calledBy k
     (cond (leb (k .mutexes .n) m) (refuse k 6 0)
     (cond (isTime t)
     (cond (eqb (ownerAt (k .mutexes) m) (k .running)) (refuse k 9 0)
-    (cond (eqb (ownerAt (k .mutexes) m) noId) (accept (withMutexes k (ownerSet (k .mutexes) m (k .running))) 0 0) (lockWaits k m t)))
+    (cond (eqb (ownerAt (k .mutexes) m) noId) (accept (putMutexes k (ownerSet (k .mutexes) m (k .running))) 0 0) (lockWaits k m t)))
     (refuse k 7 0)))
 
 abbrev pub bestAt : State → ℕ → ℕ → ℕ
 bestAt k kind object = bestOf (k .waiting) (k .tasks .wait) (k .tasks .object) (k .tasks .level) kind object
 
 unfoldable pub passed : State → ℕ → ℕ → State
-passed k m w = cond (eqb w noId) (withMutexes k (ownerSet (k .mutexes) m noId))
-    (dispatched (settled (withMutexes (woke k (single w) granted granted) (ownerSet (k .mutexes) m w)) (single w)))
+passed k m w = cond (eqb w noId) (putMutexes k (ownerSet (k .mutexes) m noId))
+    (dispatched (settled (putMutexes (woke k (single w) granted granted) (ownerSet (k .mutexes) m w)) (single w)))
 
 unfoldable pub unlockStep : State → ℕ → Out
 unlockStep k m = calledBy k
@@ -240,14 +240,14 @@ pendStep k j t = calledBy k
     (cond (isTime t)
     (cond (eqb (countAt (k .semaphores) j) 0)
     (mayWait k t (accept (dispatched (blockedOn k (k .running) onSemaphore j t)) 1 0))
-    (accept (withSemaphores k (countSet (k .semaphores) j (countAt (k .semaphores) j - 1))) 0 0))
+    (accept (putSemaphores k (countSet (k .semaphores) j (countAt (k .semaphores) j - 1))) 0 0))
     (refuse k 7 0)))
 
 unfoldable pub creditStep : State → ℕ → ℕ → Out
 creditStep k j w =
     cond (eqb w noId)
     (cond (leb (maximumAt (k .semaphores) j) (countAt (k .semaphores) j)) (refuse k 2 0)
-    (accept (withSemaphores k (countSet (k .semaphores) j (countAt (k .semaphores) j + 1))) 0 0))
+    (accept (putSemaphores k (countSet (k .semaphores) j (countAt (k .semaphores) j + 1))) 0 0))
     (accept (dispatched (lined (woke k (single w) granted granted) (single w))) 0 0)
 
 unfoldable pub postStep : State → ℕ → Out
@@ -270,22 +270,22 @@ sleepStep k t = calledBy k
 unfoldable pub yieldStep : State → Out
 yieldStep k = calledBy k
     (cond (eqb (k .hold) 0)
-    (accept (dispatched (withRunning (withReady k (inserted (k .ready) (k .tasks .level) (keyOf (k .tasks .level) (k .running) + 1) (k .running))) noId)) 0 0)
+    (accept (dispatched (putRunning (putReady k (inserted (k .ready) (k .tasks .level) (keyOf (k .tasks .level) (k .running) + 1) (k .running))) noId)) 0 0)
     (refuse k 11 0))
 
 unfoldable pub holdStep : State → Out
-holdStep k = calledBy k (cond (leb maxHold (k .hold)) (refuse k 13 0) (accept (withHold k (k .hold + 1)) 0 0))
+holdStep k = calledBy k (cond (leb maxHold (k .hold)) (refuse k 13 0) (accept (putHold k (k .hold + 1)) 0 0))
 
 unfoldable pub freeStep : State → Out
-freeStep k = calledBy k (cond (eqb (k .hold) 0) (refuse k 13 0) (accept (dispatched (withHold k (k .hold - 1))) 0 0))
+freeStep k = calledBy k (cond (eqb (k .hold) 0) (refuse k 13 0) (accept (dispatched (putHold k (k .hold - 1))) 0 0))
 
 unfoldable pub tickStep : State → Out
 tickStep k =
     let flags = filled maxTasks (dueFlag (k .tasks) (k .clock)) in
     cond (eqb (k .started) 0) (refuse k 4 0)
     (cond (anyFlag flags)
-    (accept (dispatched (settled (withClock (woke k flags granted timedOut) (dueAt (k .clock) 1)) flags)) 0 0)
-    (accept (withClock k (dueAt (k .clock) 1)) 0 0))
+    (accept (dispatched (settled (putClock (woke k flags granted timedOut) (dueAt (k .clock) 1)) flags)) 0 0)
+    (accept (putClock k (dueAt (k .clock) 1)) 0 0))
 
 unfoldable pub levelStep : State → ℕ → Out
 levelStep k i = cond (leb (k .tasks .n) i) (refuse k 6 0) (accept k 0 (keyOf (k .tasks .level) i))

@@ -36,10 +36,10 @@ use Rattle.steps.specs.FlagLaws.{flag-one, single-flags, member-one, fla
 use Rattle.steps.specs.ObjectLaws.{mutex-added, sem-added, level-same, lends-none, made-level, old-level, task-added}
 use Rattle.steps.specs.RowLaws.{by-rows, on-row, on-accept, held-on, held-off, either, called-some, id-some, running-below, on-caller, on-set-up}
 use Rattle.steps.specs.FinishLaws.{dispatch-still, quiet-pack, lined-finish, unchanged-finish}
-use Rattle.record.specs.Setters.{withReady, withRunning, withMutexes, withSemaphores, withTasks}  -- keep
+use Rattle.record.specs.Setters.{putReady, putRunning, putMutexes, putSemaphores, putTasks}  -- keep
 use Rattle.rules.specs.State.{State as Model, levelOf, placed, withTables}  -- keep
-use Rattle.rules.specs.State.{withHold as setHold, withClock as setClock, withStarted as setStarted}  -- keep
-use Rattle.rules.specs.Tables.{Tables, tasks, mutexes, semaphores, outcomeOf, waitOf}  -- keep
+use Rattle.rules.specs.State.{withHold, withClock, withStarted}  -- keep
+use Rattle.rules.specs.Tables.{Tables, taskCount, mutexCount, semCount, outcomeOf, waitOf}  -- keep
 use Rattle.rules.specs.Answer.{stepSound}  -- keep
 
 module _ (s : Model) (I : Inv s) where
@@ -56,35 +56,35 @@ module _ (s : Model) (I : Inv s) where
   pub outcome-pack : (i : ℕ) → outcomeStep (pack s) i ≡ outFor (stepSound s (outcome i))
   unfolding outcomeStep pack packTasks refusals effect
   outcome-pack i = by-rows s (outcome i) (on-row s (outcome i) _ _ refl (λ e. chosen _ _ _ e) (λ e. skipped _ _ _ e
-      ∙ ap (accept (pack s) 0) (getD-pad maxTasks 0 (s .tables .outcomes) i) ∙ on-accept s (outcome i) (done s [] (outcomeOf (s .tables) i)) (pack s) refl refl idle-pack))
+      ∙ ap (accept (pack s) 0) (getD-pad maxTasks 0 (s .tables .tasks .outcomes) i) ∙ on-accept s (outcome i) (done s [] (outcomeOf (s .tables) i)) (pack s) refl refl idle-pack))
 
   pub hold-pack : holdStep (pack s) ≡ outFor (stepSound s hold)
   unfolding holdStep pack packTasks packWith levelColumn refusals effect
   hold-pack = by-rows s hold (on-caller s I hold _ (λ r a b run. on-row s hold _ _ refl (λ e. chosen _ _ _ e) (λ e. skipped _ _ _ e
-      ∙ on-accept s hold (done (setHold s (s .hold + 1)) [] 0) _ refl refl
+      ∙ on-accept s hold (done (withHold s (s .hold + 1)) [] 0) _ refl refl
       (quiet-pack s I (s .tables) (s .clock) (s .hold + 1) (I .facts) refl refl (λ i. refl) (λ z. absurd (omega arith))))))
 
   pub free-pack : freeStep (pack s) ≡ outFor (stepSound s free)
   unfolding freeStep pack packTasks packWith levelColumn refusals effect
   free-pack = by-rows s free (on-caller s I free _ (λ r a b run. on-row s free _ _ refl (λ e. chosen _ _ _ e) (λ e. skipped _ _ _ e
-      ∙ on-accept s free (done (setHold s (s .hold - 1)) [] 0) _ refl refl
-      (unchanged-finish s I (setHold s (s .hold - 1)) (I .facts) refl (I .places) (I .ascending) (λ i. refl)))))
+      ∙ on-accept s free (done (withHold s (s .hold - 1)) [] 0) _ refl refl
+      (unchanged-finish s I (withHold s (s .hold - 1)) (I .facts) refl (I .places) (I .ascending) (λ i. refl)))))
 
   pub start-pack : startStep (pack s) ≡ outFor (stepSound s start)
   unfolding startStep pack packTasks packWith levelColumn refusals effect
   start-pack = by-rows s start (on-set-up s I start _ (λ e.
-      on-accept s start (done (setStarted s true) [] 0) _ refl refl
-      (unchanged-finish s I (setStarted s true) (I .facts) refl (I .places) (I .ascending) (λ i. refl))))
+      on-accept s start (done (withStarted s true) [] 0) _ refl refl
+      (unchanged-finish s I (withStarted s true) (I .facts) refl (I .places) (I .ascending) (λ i. refl))))
 
   -- the caller goes to the tail of its level
   yield-ready : (r : ℕ) → s .running ≡ some r
-      → dispatched (withRunning (withReady (pack s) (inserted ((pack s) .ready) ((pack s) .tasks .level) (keyOf ((pack s) .tasks .level) ((pack s) .running) + 1) ((pack s) .running))) noId)
+      → dispatched (putRunning (putReady (pack s) (inserted ((pack s) .ready) ((pack s) .tasks .level) (keyOf ((pack s) .tasks .level) ((pack s) .running) + 1) ((pack s) .running))) noId)
       ≡ pack (dispatch (settle (levelOf s) (placed s none (s .ready)) (r ∷ [])))
   unfolding pack packTasks packWith levelColumn lined occ idOf
   yield-ready r run =
-      ap (λ x. dispatched (withRunning (withReady (pack s) (inserted ((pack s) .ready) ((pack s) .tasks .level) (keyOf ((pack s) .tasks .level) x + 1) x)) noId)) (id-some (s .running) r run)
-      ∙ ap (λ q. dispatched (withRunning (withReady (pack s) q) noId))
-      (sym (flagged-single ((pack s) .ready) ((pack s) .tasks .level) (single r) r (tasks (s .tables)) (caller-in s I r run) (flag-one (single r) (eqb r) (single-flags r (running-below s I r run)))))
+      ap (λ x. dispatched (putRunning (putReady (pack s) (inserted ((pack s) .ready) ((pack s) .tasks .level) (keyOf ((pack s) .tasks .level) x + 1) x)) noId)) (id-some (s .running) r run)
+      ∙ ap (λ q. dispatched (putRunning (putReady (pack s) q) noId))
+      (sym (flagged-single ((pack s) .ready) ((pack s) .tasks .level) (single r) r (taskCount (s .tables)) (caller-in s I r run) (flag-one (single r) (eqb r) (single-flags r (running-below s I r run)))))
       ∙ lined-finish s I (placed s none (s .ready)) (r ∷ []) (I .facts) refl (λ i. omega (arith, I .places i, ap (λ o. occ i (opt o)) run)) (I .ascending)
       (single r) (λ i. flag-one (single r) (eqb r) (single-flags r (running-below s I r run)) i ∙ sym (member-one r i)) (λ i. refl)
 
@@ -99,64 +99,64 @@ module _ (s : Model) (I : Inv s) where
     silent i = wait-none (waitOf (s .tables) i) (sym (I .facts .waiting i) ∙ I .in-set-up off .nobody-waits i)
 
     -- nobody lends, before and after
-    lone : (t : Tables) → t .waits ≡ s .tables .waits → t .priorities ≡ s .tables .priorities → (i : ℕ) → levelIn t i ≡ levelOf s i
+    lone : (t : Tables) → t .tasks .waits ≡ s .tables .tasks .waits → t .tasks .priorities ≡ s .tables .tasks .priorities → (i : ℕ) → levelIn t i ≡ levelOf s i
     lone t e f = level-same (s .tables) t (λ i. lends-none t i (ap (λ l. getD l i none) e ∙ silent i) ∙ sym (lends-none (s .tables) i (silent i))) f
 
   pub mutex-pack : (q : ℕ) → mutexStep (pack s) q ≡ outFor (stepSound s (mutex q))
   unfolding mutexStep pack packTasks packMutexes packSemaphores packWith levelColumn refusals effect
   mutex-pack q = by-rows s (mutex q) (on-set-up s I (mutex q) _ (λ off. on-row s (mutex q) _ _ refl (λ e. chosen _ _ _ e) (λ e. skipped _ _ _ e
       ∙ on-row s (mutex q) _ _ refl (λ f. chosen _ _ _ f) (λ f. skipped _ _ _ f
-      ∙ on-accept s (mutex q) (done (withTables s (addMutex (s .tables) q)) [] (mutexes (s .tables))) _ refl refl
-      (ap (withMutexes (pack s)) (mutex-added (s .tables) (I .facts) q (leb-false maxMutexes (mutexes (s .tables)) f))
+      ∙ on-accept s (mutex q) (done (withTables s (addMutex (s .tables) q)) [] (mutexCount (s .tables))) _ refl refl
+      (ap (putMutexes (pack s)) (mutex-added (s .tables) (I .facts) q (leb-false maxMutexes (mutexCount (s .tables)) f))
       ∙ quiet-pack s I (addMutex (s .tables) q) (s .clock) (s .hold)
-      (facts-addMutex (s .tables) q (leb-false kinds q e) (leb-false maxMutexes (mutexes (s .tables)) f) (I .facts)) refl refl (lone off (addMutex (s .tables) q) refl refl) (λ z. z))))))
+      (facts-addMutex (s .tables) q (leb-false kinds q e) (leb-false maxMutexes (mutexCount (s .tables)) f) (I .facts)) refl refl (lone off (addMutex (s .tables) q) refl refl) (λ z. z))))))
 
   pub sem-pack : (count max : ℕ) → semStep (pack s) count max ≡ outFor (stepSound s (sem count max))
   unfolding semStep pack packTasks packMutexes packSemaphores packWith levelColumn refusals effect
   sem-pack count max = by-rows s (sem count max) (on-set-up s I (sem count max) _ (λ off. either _ _ _ _ ∙ on-row s (sem count max) _ _ refl (λ e. chosen _ _ _ e) (λ e. skipped _ _ _ e
       ∙ on-row s (sem count max) _ _ refl (λ f. chosen _ _ _ f) (λ f. skipped _ _ _ f
       ∙ (let d = or-none (eqb max 0) (ltb max count) e in
-      let room = leb-false maxSemaphores (semaphores (s .tables)) f in
-      on-accept s (sem count max) (done (withTables s (addSem (s .tables) count max)) [] (semaphores (s .tables))) _ refl refl
-      (ap (withSemaphores (pack s)) (sem-added (s .tables) (I .facts) count max room)
+      let room = leb-false maxSemaphores (semCount (s .tables)) f in
+      on-accept s (sem count max) (done (withTables s (addSem (s .tables) count max)) [] (semCount (s .tables))) _ refl refl
+      (ap (putSemaphores (pack s)) (sem-added (s .tables) (I .facts) count max room)
       ∙ quiet-pack s I (addSem (s .tables) count max) (s .clock) (s .hold)
       (facts-addSem (s .tables) count max (omega (arith, eqb-false max 0 (d .0))) (ltb-false max count (d .1)) room (I .facts)) refl refl
       (lone off (addSem (s .tables) count max) refl refl) (λ z. z)))))))
 
   -- "A task becomes ready at the tail of its level."
-  module _ (off : s .started ≡ false) (p : ℕ) (low : p < levels) (room : tasks (s .tables) < maxTasks) where
+  module _ (off : s .started ≡ false) (p : ℕ) (low : p < levels) (room : taskCount (s .tables) < maxTasks) where
     abbrev grown : Tables
     grown = addTask (s .tables) p
 
-    ready-short : length (s .ready) ≤ tasks (s .tables)
-    ready-short = pigeonhole (tasks (s .tables)) (s .ready) (λ y. omega (arith, I .places y, below-le y (tasks (s .tables)))) (ready-in s I)
+    ready-short : length (s .ready) ≤ taskCount (s .tables)
+    ready-short = pigeonhole (taskCount (s .tables)) (s .ready) (λ y. omega (arith, I .places y, below-le y (taskCount (s .tables)))) (ready-in s I)
 
-    order : settledReady (tasks grown) (levelOf s) (levelIn grown) (s .ready) (tasks (s .tables) ∷ []) ≡ insertTail (levelIn grown) (tasks (s .tables)) (s .ready)
-    order = ap (λ k. settledReady k (levelOf s) (levelIn grown) (s .ready) (tasks (s .tables) ∷ [])) (length-snoc (s .tables .priorities) p)
-        ∙ settled-made (tasks (s .tables)) (levelOf s) (levelIn grown) (s .ready)
+    order : settledReady (taskCount grown) (levelOf s) (levelIn grown) (s .ready) (taskCount (s .tables) ∷ []) ≡ insertTail (levelIn grown) (taskCount (s .tables)) (s .ready)
+    order = ap (λ k. settledReady k (levelOf s) (levelIn grown) (s .ready) (taskCount (s .tables) ∷ [])) (length-snoc (s .tables .tasks .priorities) p)
+        ∙ settled-made (taskCount (s .tables)) (levelOf s) (levelIn grown) (s .ready)
         (λ i m. old-level (s .tables) (I .facts) (silent off) p low room i (ready-in s I i m)) (I .ascending)
 
-    lined-up : inserted (taskListOf (s .ready)) ((packTasks grown (s .clock)) .level) (p + 1) (tasks (s .tables))
-        ≡ taskListOf (settledReady (tasks grown) (levelOf s) (levelIn grown) (s .ready) (tasks (s .tables) ∷ []))
+    lined-up : inserted (taskListOf (s .ready)) ((packTasks grown (s .clock)) .level) (p + 1) (taskCount (s .tables))
+        ≡ taskListOf (settledReady (taskCount grown) (levelOf s) (levelIn grown) (s .ready) (taskCount (s .tables) ∷ []))
     unfolding packTasks levelColumn
     lined-up =
-        ap (λ x. inserted (taskListOf (s .ready)) ((packTasks grown (s .clock)) .level) (x + 1) (tasks (s .tables)))
-        (sym (level-read grown (s .clock) (tasks (s .tables)) ∙ made-level (s .tables) (I .facts) (silent off) p low room))
-        ∙ tail-taskListOf ((packTasks grown (s .clock)) .level) (tasks (s .tables)) (s .ready) (omega (arith, ready-short))
-        ∙ ap (λ (f : ℕ → ℕ). taskListOf (insertTail f (tasks (s .tables)) (s .ready))) (key-levels grown) ∙ ap taskListOf (sym order)
+        ap (λ x. inserted (taskListOf (s .ready)) ((packTasks grown (s .clock)) .level) (x + 1) (taskCount (s .tables)))
+        (sym (level-read grown (s .clock) (taskCount (s .tables)) ∙ made-level (s .tables) (I .facts) (silent off) p low room))
+        ∙ tail-taskListOf ((packTasks grown (s .clock)) .level) (taskCount (s .tables)) (s .ready) (omega (arith, ready-short))
+        ∙ ap (λ (f : ℕ → ℕ). taskListOf (insertTail f (taskCount (s .tables)) (s .ready))) (key-levels grown) ∙ ap taskListOf (sym order)
 
-    made-pack : withReady (withTasks (pack s) (taskAdded ((pack s) .tasks) p)) (inserted ((pack s) .ready) ((taskAdded ((pack s) .tasks) p) .level) (p + 1) ((pack s) .tasks .n))
-        ≡ pack (dispatch (settle (levelOf s) (withTables s grown) (tasks (s .tables) ∷ [])))
+    made-pack : putReady (putTasks (pack s) (taskAdded ((pack s) .tasks) p)) (inserted ((pack s) .ready) ((taskAdded ((pack s) .tasks) p) .level) (p + 1) ((pack s) .tasks .n))
+        ≡ pack (dispatch (settle (levelOf s) (withTables s grown) (taskCount (s .tables) ∷ [])))
     unfolding pack packMutexes packSemaphores packTasks
     made-pack =
-        ap (λ z. withReady (withTasks (pack s) z) (inserted (taskListOf (s .ready)) (z .level) (p + 1) (tasks (s .tables))))
+        ap (λ z. putReady (putTasks (pack s) z) (inserted (taskListOf (s .ready)) (z .level) (p + 1) (taskCount (s .tables))))
         (task-added (s .tables) (I .facts) (silent off) p low room (s .clock))
-        ∙ ap (λ q. withReady (withTasks (pack s) (packTasks grown (s .clock))) q) lined-up
-        ∙ ap pack (sym (dispatch-still (settle (levelOf s) (withTables s grown) (tasks (s .tables) ∷ [])) (λ e. absurd (clash e off))))
+        ∙ ap (λ q. putReady (putTasks (pack s) (packTasks grown (s .clock))) q) lined-up
+        ∙ ap pack (sym (dispatch-still (settle (levelOf s) (withTables s grown) (taskCount (s .tables) ∷ [])) (λ e. absurd (clash e off))))
 
   pub task-pack : (p : ℕ) → taskStep (pack s) p ≡ outFor (stepSound s (task p))
   unfolding taskStep pack packTasks refusals effect
   task-pack p = by-rows s (task p) (on-set-up s I (task p) _ (λ off. on-row s (task p) _ _ refl (λ e. chosen _ _ _ e) (λ e. skipped _ _ _ e
       ∙ on-row s (task p) _ _ refl (λ f. chosen _ _ _ f) (λ f. skipped _ _ _ f
-      ∙ on-accept s (task p) (done (withTables s (addTask (s .tables) p)) (tasks (s .tables) ∷ []) (tasks (s .tables))) _ refl refl
-      (made-pack off p (leb-false levels p e) (leb-false maxTasks (tasks (s .tables)) f))))))
+      ∙ on-accept s (task p) (done (withTables s (addTask (s .tables) p)) (taskCount (s .tables) ∷ []) (taskCount (s .tables))) _ refl refl
+      (made-pack off p (leb-false levels p e) (leb-false maxTasks (taskCount (s .tables)) f))))))

@@ -18,7 +18,7 @@ use Rattle.lists.specs.CountLaws.{in-below, below-le, pigeonhole}
 use Rattle.lists.specs.OrderLaws.{insertAll-append, keep-all, asc-change, keep-ext, byId-ext, byId-none, keep-in, asc-keep, stable-append}
 use Rattle.lists.specs.TableLaws.{length-filled, getD-filled}
 use Rattle.rules.specs.Sizes.{maxTasks}
-use Rattle.rules.specs.Tables.{tasks}
+use Rattle.rules.specs.Tables.{taskCount}
 use Rattle.rules.specs.Levels.{levelIn}
 use Rattle.rules.specs.Settle.{settledReady, settle}
 use Rattle.rules.specs.Invariant.{Facts, Places}
@@ -26,7 +26,7 @@ use Rattle.rules.specs.SettleLaws.{occ-settled, settled-same}
 use Rattle.task_lists.specs.TaskList.{taskListOf, keyOf, insertedFlagged, counted}
 use Rattle.task_lists.specs.TaskListLaws.{items-taskListOf, length-insertAll, flagged-taskListOf, kept-taskListOf, getD-counted}
 use Rattle.record.specs.Record.{packTasks, pack}
-use Rattle.record.specs.Setters.{withTasks, withReady, withLevel}
+use Rattle.record.specs.Setters.{putTasks, putReady, putLevel}
 use Rattle.steps.specs.Machine.{differs, differFlag, bothOnes, bothFlag, movedOf, resettled, settled, lined}
 use Rattle.record.specs.PackLaws.{levelColumn, packWith}
 use Rattle.record.specs.ReadLaws.{level-out, key-level, key-levels, length-levels, new-levels}
@@ -158,78 +158,78 @@ settled-level n f ready woken a = rw (keep-all (λ i. eqb (f i) (f i)) ready (λ
     nobody = byId-none n _ (λ i. rw (eq-eqb (f i) (f i) refl) (false-and false (member i ready) refl))
 
 -- levels that the first tasks keep are kept
-module _ (before s : Model) (same-tasks : tasks (s .tables) ≡ tasks (before .tables)) (same-levels : (i : ℕ) → i < tasks (s .tables) → levelIn (s .tables) i ≡ levelOf before i) where
+module _ (before s : Model) (same-tasks : taskCount (s .tables) ≡ taskCount (before .tables)) (same-levels : (i : ℕ) → i < taskCount (s .tables) → levelIn (s .tables) i ≡ levelOf before i) where
   pub levels-kept : levelOf before ≡ levelOf s
-  levels-kept = fun-ext (λ i. elim (decLt i (tasks (s .tables))) [
+  levels-kept = fun-ext (λ i. elim (decLt i (taskCount (s .tables))) [
     | yes h ↦ sym (same-levels i h)
     | no h ↦ level-out (before .tables) i (omega arith) ∙ sym (level-out (s .tables) i (omega arith))
   ])
 
   pub column-kept : levelColumn (before .tables) ≡ levelColumn (s .tables)
   unfolding levelColumn
-  column-kept = ap (λ n. pad maxTasks 0 (filled n (levelOf before))) (sym same-tasks) ∙ ap (λ f. pad maxTasks 0 (filled (tasks (s .tables)) f)) levels-kept
+  column-kept = ap (λ n. pad maxTasks 0 (filled n (levelOf before))) (sym same-tasks) ∙ ap (λ f. pad maxTasks 0 (filled (taskCount (s .tables)) f)) levels-kept
 
 -- a packed state whose levels are still those of the state before, where nobody became ready and no level changed
-pub unchanged-pack : (before s : Model) → tasks (s .tables) ≡ tasks (before .tables) → Asc (levelOf before) (s .ready)
-    → ((i : ℕ) → i < tasks (s .tables) → levelIn (s .tables) i ≡ levelOf before i)
+pub unchanged-pack : (before s : Model) → taskCount (s .tables) ≡ taskCount (before .tables) → Asc (levelOf before) (s .ready)
+    → ((i : ℕ) → i < taskCount (s .tables) → levelIn (s .tables) i ≡ levelOf before i)
     → packWith (levelColumn (before .tables)) s ≡ pack (settle (levelOf before) s [])
 unfolding packWith pack packTasks levelColumn
-unchanged-pack before s e asc lv = ap (λ c. packWith c s) (column-kept before s e lv) ∙ ap (λ l. withReady (pack s) (taskListOf l)) (sym still)
+unchanged-pack before s e asc lv = ap (λ c. packWith c s) (column-kept before s e lv) ∙ ap (λ l. putReady (pack s) (taskListOf l)) (sym still)
   where
-    still : settledReady (tasks (s .tables)) (levelOf before) (levelOf s) (s .ready) [] ≡ s .ready
-    still = settled-same (tasks (s .tables)) (levelOf before) (levelOf s) (s .ready) (λ i m. ap (λ f. f i) (sym (levels-kept before s e lv))) asc
+    still : settledReady (taskCount (s .tables)) (levelOf before) (levelOf s) (s .ready) [] ≡ s .ready
+    still = settled-same (taskCount (s .tables)) (levelOf before) (levelOf s) (s .ready) (λ i m. ap (λ f. f i) (sym (levels-kept before s e lv))) asc
 
 -- settling such a state
-module _ (before s : Model) (woken flags : List ℕ) (F : Facts (s .tables)) (same-tasks : tasks (s .tables) ≡ tasks (before .tables)) (P : Places s woken)
+module _ (before s : Model) (woken flags : List ℕ) (F : Facts (s .tables)) (same-tasks : taskCount (s .tables) ≡ taskCount (before .tables)) (P : Places s woken)
     (asc : Asc (levelOf before) (s .ready)) (flagged : (i : ℕ) → eqb (keyOf flags i) 1 ≡ member i woken) where
-  settled-list : resettled (taskListOf (s .ready)) (levelColumn (before .tables)) (levelColumn (s .tables)) flags (tasks (s .tables))
-      ≡ taskListOf (settledReady (tasks (s .tables)) (levelOf before) (levelOf s) (s .ready) woken)
+  settled-list : resettled (taskListOf (s .ready)) (levelColumn (before .tables)) (levelColumn (s .tables)) flags (taskCount (s .tables))
+      ≡ taskListOf (settledReady (taskCount (s .tables)) (levelOf before) (levelOf s) (s .ready) woken)
   settled-list =
-      resettled-list (tasks (s .tables)) (levelColumn (before .tables)) (levelColumn (s .tables)) (s .ready) woken flags (F .few-tasks)
+      resettled-list (taskCount (s .tables)) (levelColumn (before .tables)) (levelColumn (s .tables)) (s .ready) woken flags (F .few-tasks)
       (length-levels (before .tables) (omega (arith, F .few-tasks))) (length-levels (s .tables) (F .few-tasks)) (λ i. omega (arith, P i))
       (asc-change (levelOf before) (keyOf (levelColumn (before .tables))) (s .ready) (λ y m. sym (key-level (before .tables) y)) asc) flagged
-      ∙ ap (λ f. taskListOf (settledReady (tasks (s .tables)) f (keyOf (levelColumn (s .tables))) (s .ready) woken)) (key-levels (before .tables))
-      ∙ ap (λ f. taskListOf (settledReady (tasks (s .tables)) (levelOf before) f (s .ready) woken)) (key-levels (s .tables))
+      ∙ ap (λ f. taskListOf (settledReady (taskCount (s .tables)) f (keyOf (levelColumn (s .tables))) (s .ready) woken)) (key-levels (before .tables))
+      ∙ ap (λ f. taskListOf (settledReady (taskCount (s .tables)) (levelOf before) f (s .ready) woken)) (key-levels (s .tables))
 
   pub settle-pack : settled (packWith (levelColumn (before .tables)) s) flags ≡ pack (settle (levelOf before) s woken)
   unfolding settled packWith pack packTasks levelColumn
-  settle-pack = ap made (new-levels s F (levelColumn (before .tables))) ∙ ap (λ q. withReady (pack s) q) settled-list
+  settle-pack = ap made (new-levels s F (levelColumn (before .tables))) ∙ ap (λ q. putReady (pack s) q) settled-list
     where
       k : State
       k = packWith (levelColumn (before .tables)) s
 
       made : List ℕ → State
-      made new = withReady (withTasks k (withLevel (k .tasks) new)) (resettled (k .ready) (k .tasks .level) new flags (k .tasks .n))
+      made new = putReady (putTasks k (putLevel (k .tasks) new)) (resettled (k .ready) (k .tasks .level) new flags (k .tasks .n))
 
   -- where no level changed, the code makes no levels
-  module _ (same-levels : (i : ℕ) → i < tasks (s .tables) → levelIn (s .tables) i ≡ levelOf before i) where
-    order-kept : settledReady (tasks (s .tables)) (levelOf before) (levelOf s) (s .ready) woken ≡ insertAll (levelOf s) (byId (tasks (s .tables)) (λ i. member i woken)) (s .ready)
-    order-kept = ap (λ f. settledReady (tasks (s .tables)) f (levelOf s) (s .ready) woken) unmoved
-        ∙ settled-level (tasks (s .tables)) (levelOf s) (s .ready) woken (asc-change (levelOf before) (levelOf s) (s .ready) (λ y m. ap (λ f. f y) unmoved) asc)
+  module _ (same-levels : (i : ℕ) → i < taskCount (s .tables) → levelIn (s .tables) i ≡ levelOf before i) where
+    order-kept : settledReady (taskCount (s .tables)) (levelOf before) (levelOf s) (s .ready) woken ≡ insertAll (levelOf s) (byId (taskCount (s .tables)) (λ i. member i woken)) (s .ready)
+    order-kept = ap (λ f. settledReady (taskCount (s .tables)) f (levelOf s) (s .ready) woken) unmoved
+        ∙ settled-level (taskCount (s .tables)) (levelOf s) (s .ready) woken (asc-change (levelOf before) (levelOf s) (s .ready) (λ y m. ap (λ f. f y) unmoved) asc)
       where
         unmoved : levelOf before ≡ levelOf s
         unmoved = levels-kept before s same-tasks same-levels
 
-    lined-list : insertedFlagged (taskListOf (s .ready)) (levelColumn (s .tables)) flags (tasks (s .tables)) ≡ taskListOf (settledReady (tasks (s .tables)) (levelOf before) (levelOf s) (s .ready) woken)
+    lined-list : insertedFlagged (taskListOf (s .ready)) (levelColumn (s .tables)) flags (taskCount (s .tables)) ≡ taskListOf (settledReady (taskCount (s .tables)) (levelOf before) (levelOf s) (s .ready) woken)
     lined-list =
-        flagged-taskListOf (levelColumn (s .tables)) flags (tasks (s .tables)) (s .ready) sizes
+        flagged-taskListOf (levelColumn (s .tables)) flags (taskCount (s .tables)) (s .ready) sizes
         ∙ ap (λ l. taskListOf (insertAll (keyOf (levelColumn (s .tables))) l (s .ready))) came
-        ∙ ap (λ f. taskListOf (insertAll f (byId (tasks (s .tables)) (λ i. member i woken)) (s .ready))) (key-levels (s .tables))
+        ∙ ap (λ f. taskListOf (insertAll f (byId (taskCount (s .tables)) (λ i. member i woken)) (s .ready))) (key-levels (s .tables))
         ∙ ap taskListOf (sym order-kept)
       where
-        came : byId (tasks (s .tables)) (λ i. eqb (keyOf flags i) 1) ≡ byId (tasks (s .tables)) (λ i. member i woken)
-        came = byId-ext (tasks (s .tables)) _ _ (λ i h. flagged i)
+        came : byId (taskCount (s .tables)) (λ i. eqb (keyOf flags i) 1) ≡ byId (taskCount (s .tables)) (λ i. member i woken)
+        came = byId-ext (taskCount (s .tables)) _ _ (λ i h. flagged i)
 
-        sizes : length (s .ready) + length (byId (tasks (s .tables)) (λ i. eqb (keyOf flags i) 1)) ≤ maxTasks
+        sizes : length (s .ready) + length (byId (taskCount (s .tables)) (λ i. eqb (keyOf flags i) 1)) ≤ maxTasks
         sizes = omega (
           arith,
           F .few-tasks,
-          settled-fits (tasks (s .tables)) (levelOf before) (levelOf s) (s .ready) woken (λ i. omega (arith, P i)),
+          settled-fits (taskCount (s .tables)) (levelOf before) (levelOf s) (s .ready) woken (λ i. omega (arith, P i)),
           ap length order-kept,
           ap length came,
-          length-insertAll (levelOf s) (byId (tasks (s .tables)) (λ i. member i woken)) (s .ready),
+          length-insertAll (levelOf s) (byId (taskCount (s .tables)) (λ i. member i woken)) (s .ready),
         )
 
     pub lined-pack : lined (packWith (levelColumn (before .tables)) s) flags ≡ pack (settle (levelOf before) s woken)
     unfolding lined packWith pack packTasks levelColumn
-    lined-pack = ap (λ lv. lined (packWith lv s) flags) (column-kept before s same-tasks same-levels) ∙ ap (λ q. withReady (pack s) q) lined-list
+    lined-pack = ap (λ lv. lined (packWith lv s) flags) (column-kept before s same-tasks same-levels) ∙ ap (λ q. putReady (pack s) q) lined-list

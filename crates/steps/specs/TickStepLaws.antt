@@ -28,7 +28,7 @@ use Rattle.rules.specs.WaiterLaws.{due-waits, not-due, outcome-due, places-end}
 use Rattle.task_lists.specs.TaskList.{keyOf}
 use Rattle.record.specs.Record.{dueAt, kindCode, objectCode, timedCode, dueCode, packTasks, packMutexes, packSemaphores, pack}
 use Rattle.record.specs.StepRecord.{outFor}
-use Rattle.record.specs.Setters.{withLevel}
+use Rattle.record.specs.Setters.{putLevel}
 use Rattle.steps.specs.Machine.{dueFlag, anyFlag, settled, dispatched, woke, accept, tickStep}
 use Rattle.record.specs.PackLaws.{levelColumn, packWith}
 use Rattle.record.specs.ColumnLaws.{chosen, skipped, pad-ext}
@@ -40,9 +40,9 @@ use Rattle.steps.specs.RowLaws.{ruled, by-rows, on-accept, on-started}
 use Rattle.steps.specs.FinishLaws.{quiet-pack, settled-finish}
 use Rattle.record.specs.declared.State.{State}  -- keep
 use Rattle.record.specs.declared.Tasks.{Tasks}  -- keep
-use Rattle.record.specs.Setters.{withClock, withTasks}  -- keep
-use Rattle.rules.specs.State.{State as Model, levelOf, withTables, withClock as setClock}  -- keep
-use Rattle.rules.specs.Tables.{Tables, Wait, tasks, outcomeOf, waitOf, withOutcomes, withWaits, withWaiting}  -- keep
+use Rattle.record.specs.Setters.{putClock, putTasks}  -- keep
+use Rattle.rules.specs.State.{State as Model, levelOf, withTables, withClock}  -- keep
+use Rattle.rules.specs.Tables.{Tables, Wait, taskCount, outcomeOf, waitOf, withTasks}  -- keep
 use Rattle.rules.specs.Answer.{stepSound}  -- keep
 
 -- a change that changes nothing
@@ -53,23 +53,25 @@ edit-same f (x ∷ l) h = rw (h 0 x, edit-same (λ i. f (suc i)) l (λ i. h (suc
 
 -- where nobody passes the test, no wait ends
 end-nobody : (t : Tables) (p : ℕ → Bool) (out : ℕ → ℕ) → ((i : ℕ) → p i ≡ false) → endWaits t p out ≡ t
-end-nobody t p out h =
-    ap (λ x. withOutcomes (withWaiting (withWaits t x) (keep (λ i. not (p i)) (t .waiting))) ((endWaits t p out) .outcomes)) (edit-same (λ i x. cond (p i) none x) (t .waits) (λ i x. skipped _ _ _ (h i)))
-    ∙ ap (λ x. withOutcomes (withWaiting t x) ((endWaits t p out) .outcomes)) (keep-all (λ i. not (p i)) (t .waiting) (λ y m. ap not (h y)))
-    ∙ ap (withOutcomes t) (edit-same (λ i x. cond (p i) (out i) x) (t .outcomes) (λ i x. skipped _ _ _ (h i)))
+end-nobody t p out h = λ i. withTasks t (record {
+  priorities = t .tasks .priorities;
+  outcomes = edit-same (λ j x. cond (p j) (out j) x) (t .tasks .outcomes) (λ j x. skipped _ _ _ (h j)) i;
+  waits = edit-same (λ j x. cond (p j) none x) (t .tasks .waits) (λ j x. skipped _ _ _ (h j)) i;
+  waiting = keep-all (λ j. not (p j)) (t .tasks .waiting) (λ y m. ap not (h y)) i;
+})
 
 -- the columns of waits that are a tick older
 module _ (t : Tables) (F : Facts t) where
-  aged-column : (f g : Option Wait → ℕ) → f none ≡ 0 → g none ≡ 0 → ((i : ℕ) → g (age (waitOf t i)) ≡ f (waitOf t i)) → pad maxTasks 0 (map f (t .waits)) ≡ pad maxTasks 0 (map g ((ageAll t) .waits))
+  aged-column : (f g : Option Wait → ℕ) → f none ≡ 0 → g none ≡ 0 → ((i : ℕ) → g (age (waitOf t i)) ≡ f (waitOf t i)) → pad maxTasks 0 (map f (t .tasks .waits)) ≡ pad maxTasks 0 (map g ((ageAll t) .tasks .waits))
   unfolding age
-  aged-column f g e h same = pad-ext maxTasks 0 (map f (t .waits)) (map g ((ageAll t) .waits))
-      (omega (arith, length-map (t .waits) f, F .wait-column, F .few-tasks)) (omega (arith, length-map ((ageAll t) .waits) g, length-map (t .waits) age, F .wait-column, F .few-tasks))
-      (λ i. ap (getD (map f (t .waits)) i) (sym e) ∙ List·getD-map f (t .waits) i none ∙ sym (same i) ∙ ap g (sym (List·getD-map age (t .waits) i none))
-      ∙ sym (List·getD-map g ((ageAll t) .waits) i none) ∙ ap (getD (map g ((ageAll t) .waits)) i) h)
+  aged-column f g e h same = pad-ext maxTasks 0 (map f (t .tasks .waits)) (map g ((ageAll t) .tasks .waits))
+      (omega (arith, length-map (t .tasks .waits) f, F .wait-column, F .few-tasks)) (omega (arith, length-map ((ageAll t) .tasks .waits) g, length-map (t .tasks .waits) age, F .wait-column, F .few-tasks))
+      (λ i. ap (getD (map f (t .tasks .waits)) i) (sym e) ∙ List·getD-map f (t .tasks .waits) i none ∙ sym (same i) ∙ ap g (sym (List·getD-map age (t .tasks .waits) i none))
+      ∙ sym (List·getD-map g ((ageAll t) .tasks .waits) i none) ∙ ap (getD (map g ((ageAll t) .tasks .waits)) i) h)
 
-  tasks-aged : (c : ℕ) (l : List ℕ) → ((i : ℕ) → due t i ≡ false) → withLevel (packTasks t c) l ≡ withLevel (packTasks (ageAll t) ((c + 1) % wordSize)) l
+  tasks-aged : (c : ℕ) (l : List ℕ) → ((i : ℕ) → due t i ≡ false) → putLevel (packTasks t c) l ≡ putLevel (packTasks (ageAll t) ((c + 1) % wordSize)) l
   unfolding packTasks kindCode objectCode timedCode dueCode
-  tasks-aged c l later = aged-columns (withLevel (packTasks t c) l)
+  tasks-aged c l later = aged-columns (putLevel (packTasks t c) l)
       (aged-column (dueCode c) (dueCode ((c + 1) % wordSize)) refl refl (λ i. aged-code c (waitOf t i) (F .timed i) (later i)))
       (aged-column kindCode kindCode refl refl (λ i. aged-kind (waitOf t i)))
       (aged-column objectCode objectCode refl refl (λ i. aged-object (waitOf t i)))
@@ -83,9 +85,9 @@ module _ (t : Tables) (F : Facts t) where
 
 -- a clock that goes on
 aged-pack : (s : Model) (l : List ℕ) → Facts (s .tables) → ((i : ℕ) → due (s .tables) i ≡ false)
-    → withClock (packWith l s) (dueAt (s .clock) 1) ≡ packWith l (setClock (withTables s (ageAll (s .tables))) ((s .clock + 1) % wordSize))
+    → putClock (packWith l s) (dueAt (s .clock) 1) ≡ packWith l (withClock (withTables s (ageAll (s .tables))) ((s .clock + 1) % wordSize))
 unfolding pack packWith packMutexes packSemaphores
-aged-pack s l F later = ap (λ z. withClock (withTasks (packWith l s) z) (dueAt (s .clock) 1)) (tasks-aged (s .tables) F (s .clock) l later)
+aged-pack s l F later = ap (λ z. putClock (putTasks (packWith l s) z) (dueAt (s .clock) 1)) (tasks-aged (s .tables) F (s .clock) l later)
 
 tick-done : (s : Model) (k : State) → k ≡ pack (dispatch (settle (levelOf s) ((tickOf s) .state) ((tickOf s) .woken))) → accept k 0 0 ≡ ruled s tick []
 unfolding tickOf effect
@@ -116,13 +118,13 @@ module _ (s : Model) (I : Inv s) where
       (by-test (λ (w : Option Wait). isDue w ≡ false) (due (s .tables) i) (λ e. not-due) (λ e. e))
 
   -- some waits are due
-  due-finish : dispatched (settled (withClock (woke (pack s) flags granted timedOut) (dueAt (s .clock) 1)) flags) ≡ pack (dispatch (settle (levelOf s) ((tickOf s) .state) ((tickOf s) .woken)))
+  due-finish : dispatched (settled (putClock (woke (pack s) flags granted timedOut) (dueAt (s .clock) 1)) flags) ≡ pack (dispatch (settle (levelOf s) ((tickOf s) .state) ((tickOf s) .woken)))
   unfolding tickOf
   due-finish =
-      ap (λ z. dispatched (settled (withClock z (dueAt (s .clock) 1)) flags)) (woke-pack s (I .facts) (due (s .tables)) named flags flags-due
+      ap (λ z. dispatched (settled (putClock z (dueAt (s .clock) 1)) flags)) (woke-pack s (I .facts) (due (s .tables)) named flags flags-due
       (λ i. outcomeDue (waitOf (s .tables) i)) granted timedOut (λ i e. due-kind (waitOf (s .tables) i) e))
       ∙ ap (λ z. dispatched (settled z flags)) (aged-pack (withTables s expired) (levelColumn (s .tables)) expired-facts later)
-      ∙ settled-finish s I (setClock (withTables s (ageAll expired)) ((s .clock + 1) % wordSize)) (ended (s .tables) (due (s .tables))) (facts-age expired later expired-facts) refl
+      ∙ settled-finish s I (withClock (withTables s (ageAll expired)) ((s .clock + 1) % wordSize)) (ended (s .tables) (due (s .tables))) (facts-age expired later expired-facts) refl
       (places-end s (ageAll expired) (due (s .tables)) refl refl (I .places)) (I .ascending) flags
       (λ i. flag-one flags (due (s .tables)) flags-due i ∙ sym (member-ended (s .tables) (I .facts) (due (s .tables)) named i))
 
@@ -134,15 +136,15 @@ module _ (s : Model) (I : Inv s) where
     | no h ↦ (let q : length flags ≤ i = omega (arith, wide) in ap (λ x. eqb x 1) (List·getD-eq-default flags 0 q))
   ]
 
-  still-finish : ((i : ℕ) → due (s .tables) i ≡ false) → withClock (pack s) (dueAt (s .clock) 1) ≡ pack (dispatch (settle (levelOf s) ((tickOf s) .state) ((tickOf s) .woken)))
+  still-finish : ((i : ℕ) → due (s .tables) i ≡ false) → putClock (pack s) (dueAt (s .clock) 1) ≡ pack (dispatch (settle (levelOf s) ((tickOf s) .state) ((tickOf s) .woken)))
   unfolding tickOf pack packTasks packWith levelColumn
   still-finish none-due = aged-pack s (levelColumn (s .tables)) (I .facts) none-due
       ∙ quiet-pack s I (ageAll (s .tables)) ((s .clock + 1) % wordSize) (s .hold) (facts-age (s .tables) none-due (I .facts)) refl refl
       (level-same (s .tables) (ageAll (s .tables)) (lends-age (s .tables)) refl) (λ z. z)
-      ∙ ap (λ t. pack (dispatch (settle (levelOf s) (setClock (withTables s (ageAll t)) ((s .clock + 1) % wordSize)) [])))
+      ∙ ap (λ t. pack (dispatch (settle (levelOf s) (withClock (withTables s (ageAll t)) ((s .clock + 1) % wordSize)) [])))
       (sym (end-nobody (s .tables) (due (s .tables)) (λ i. outcomeDue (waitOf (s .tables) i)) none-due))
-      ∙ ap (λ w. pack (dispatch (settle (levelOf s) (setClock (withTables s (ageAll expired)) ((s .clock + 1) % wordSize)) w)))
-      (sym (keep-none (due (s .tables)) (s .tables .waiting) (λ y m. none-due y)))
+      ∙ ap (λ w. pack (dispatch (settle (levelOf s) (withClock (withTables s (ageAll expired)) ((s .clock + 1) % wordSize)) w)))
+      (sym (keep-none (due (s .tables)) (s .tables .tasks .waiting) (λ y m. none-due y)))
 
   pub tick-pack : tickStep (pack s) ≡ outFor (stepSound s tick)
   unfolding tickStep pack refusals effect

@@ -12,8 +12,8 @@ use Rattle.lists.specs.Table.{filled}
 use Rattle.lists.specs.TestLaws.{clash}
 use Rattle.lists.specs.TableLaws.{length-filled, getD-filled}
 use Rattle.chains.specs.Chain.{walk}
-use Rattle.rules.specs.Sizes.{maxTasks, wordSize, granted, timedOut}
-use Rattle.rules.specs.Levels.{next, chainOf, sameAwaited, waitIsFor, awaits, waitersOf, bestWaiter}
+use Rattle.rules.specs.Sizes.{maxTasks, wordSize, granted, timedOut, onTime}
+use Rattle.rules.specs.Levels.{ownerAwaited, next, chainOf, sameAwaited, waitIsFor, awaits, waitersOf, bestWaiter}
 use Rattle.rules.specs.Effect.{isDue, due, expiry, outcomeDue, lessOne, age}
 use Rattle.rules.specs.Invariant.{Left, Timed, Facts}
 use Rattle.rules.specs.LevelLaws.{wait-out}
@@ -21,50 +21,36 @@ use Rattle.task_lists.specs.TaskList.{idOf, bestOf}
 use Rattle.task_lists.specs.TaskListLaws.{items-taskListOf}
 use Rattle.walks.specs.Walk.{taskAt, nextIn, chainFrom}
 use Rattle.walks.specs.WalkLaws.{walk-ext}
-use Rattle.record.specs.Record.{ticksLeft, onMutex, onSemaphore, onTime, awaitedKind, awaitedObject, leftCode, kindCode, objectCode, timedCode, dueCode, packTasks, pack}
+use Rattle.record.specs.Record.{ticksLeft, leftCode, kindCode, objectCode, timedCode, dueCode, packTasks, pack}
 use Rattle.record.specs.Reads.{ownerAt, nextAt}
 use Rattle.steps.specs.Machine.{dueFlag, waiterFlag, bestAt}
 use Rattle.record.specs.PackLaws.{ticks-back}
 use Rattle.record.specs.ReadLaws.{kind-read, object-read, timed-read, due-read, level-read, owner-read, owner-back, next-pack}
 use Rattle.steps.specs.FlagLaws.{Flags}
 use Rattle.rules.specs.State.{State as Model, levelOf}  -- keep
-use Rattle.rules.specs.Tables.{Tables, Wait, Awaited, mutexOf, semOf, time, tasks, waitOf, kindOf, ownerOf}  -- keep
+use Rattle.rules.specs.Tables.{awaitedKind, awaitedObject, Tables, Wait, Awaited, mutexOf, semOf, time, taskCount, waitOf, kindOf, ownerOf}  -- keep
 
 -- the code of a test
 abbrev bit : Bool → ℕ
 bit b = cond b 1 0
 
--- the code of a wait, and the test of what it is for
-pub coded-mutex : (w : Option Wait) (m : ℕ) → eqb (kindCode w) onMutex and eqb (objectCode w) m ≡ waitIsFor w (mutexOf m)
-unfolding kindCode objectCode awaitedKind awaitedObject waitIsFor sameAwaited _and_
-coded-mutex none m = refl
-coded-mutex (some w) m = go (w .on)
-  where
-    go : (a : Awaited) → eqb (awaitedKind a) onMutex and eqb (awaitedObject a) m ≡ sameAwaited a (mutexOf m)
-    go (mutexOf n) = refl
-    go (semOf k) = refl
-    go time = refl
+-- the code of a wait, and the test of what it is for; no kind of wait has the code of none
+waits-code : (a : Awaited) → eqb 0 (awaitedKind a) ≡ false
+unfolding awaitedKind
+waits-code (mutexOf m) = refl
+waits-code (semOf k) = refl
+waits-code time = refl
 
-pub coded-sem : (w : Option Wait) (k : ℕ) → eqb (kindCode w) onSemaphore and eqb (objectCode w) k ≡ waitIsFor w (semOf k)
-unfolding kindCode objectCode awaitedKind awaitedObject waitIsFor sameAwaited _and_
-coded-sem none k = refl
-coded-sem (some w) k = go (w .on)
-  where
-    go : (a : Awaited) → eqb (awaitedKind a) onSemaphore and eqb (awaitedObject a) k ≡ sameAwaited a (semOf k)
-    go (mutexOf n) = refl
-    go (semOf j) = refl
-    go time = refl
+coded-wait : (w : Option Wait) (a : Awaited) → eqb (kindCode w) (awaitedKind a) and eqb (objectCode w) (awaitedObject a) ≡ waitIsFor w a
+unfolding kindCode objectCode waitIsFor sameAwaited _and_
+coded-wait none a = rw (waits-code a) refl
+coded-wait (some w) a = refl
 
 -- the outcome of a wait that is due
 pub due-kind : (w : Option Wait) → isDue w ≡ true → cond (eqb (kindCode w) onTime) granted timedOut ≡ outcomeDue w
 unfolding kindCode awaitedKind isDue outcomeDue expiry
 due-kind none e = absurd (clash e refl)
-due-kind (some w) e = go (w .on)
-  where
-    go : (a : Awaited) → cond (eqb (awaitedKind a) onTime) granted timedOut ≡ expiry a
-    go (mutexOf n) = refl
-    go (semOf j) = refl
-    go time = refl
+due-kind (some w) e = refl
 
 two-tests : (a b : Bool) → cond a (bit b) 0 ≡ bit (a and b)
 unfolding _and_
@@ -80,9 +66,7 @@ due-code clock (some w) h t = go (w .on) (w .left) t
   where
     go : (a : Awaited) (l : Option ℕ) → Left a l → cond (eqb (bit (someb l)) 1) (bit (eqb (ticksLeft (leftCode clock l) clock) 1)) 0 ≡ bit (holds l 1)
     go a none q = refl
-    go (mutexOf m) (some n) q = ap (λ z. bit (eqb z 1)) (ticks-back clock h n (omega arith))
-    go (semOf k) (some n) q = ap (λ z. bit (eqb z 1)) (ticks-back clock h n (omega arith))
-    go time (some n) q = ap (λ z. bit (eqb z 1)) (ticks-back clock h n (omega arith))
+    go a (some n) q = ap (λ z. bit (eqb z 1)) (ticks-back clock h n (omega arith))
 
 -- a tick later, the due time stands
 pub aged-code : (clock : ℕ) (w : Option Wait) → Timed w → isDue w ≡ false → dueCode ((clock + 1) % wordSize) (age w) ≡ dueCode clock w
@@ -92,9 +76,7 @@ aged-code clock (some w) t e = go (w .on) (w .left) t e
   where
     go : (a : Awaited) (l : Option ℕ) → Left a l → holds l 1 ≡ false → leftCode ((clock + 1) % wordSize) (lessOne l) ≡ leftCode clock l
     go a none q f = refl
-    go (mutexOf m) (some n) q f = omega arith
-    go (semOf k) (some n) q f = omega arith
-    go time (some n) q f = omega arith
+    go a (some n) q f = omega arith
 
 pub aged-kind : (w : Option Wait) → kindCode (age w) ≡ kindCode w
 unfolding kindCode age
@@ -125,37 +107,30 @@ module _ (t : Tables) (F : Facts t) where
   ]
 
   module _ (c : ℕ) where
-    pub sem-flags : (k : ℕ) → Flags (filled maxTasks (waiterFlag (packTasks t c) onSemaphore k)) (awaits t (semOf k))
+    pub waiter-flags : (a : Awaited) → Flags (filled maxTasks (waiterFlag (packTasks t c) (awaitedKind a) (awaitedObject a))) (awaits t a)
     unfolding waiterFlag waitIsFor
-    sem-flags k = flags-of (waiterFlag (packTasks t c) onSemaphore k) (λ w. waitIsFor w (semOf k)) refl (λ i.
-        rw (kind-read t c i, object-read t c i) (two-tests _ _ ∙ ap bit (coded-sem (waitOf t i) k)))
+    waiter-flags a = flags-of (waiterFlag (packTasks t c) (awaitedKind a) (awaitedObject a)) (λ w. waitIsFor w a) refl (λ i.
+        rw (kind-read t c i, object-read t c i) (two-tests _ _ ∙ ap bit (coded-wait (waitOf t i) a)))
 
     pub due-flags : c < wordSize → Flags (filled maxTasks (dueFlag (packTasks t c) c)) (due t)
     unfolding dueFlag isDue
     due-flags h = flags-of (dueFlag (packTasks t c) c) isDue refl (λ i. rw (timed-read t c i, due-read t c i) (due-code c (waitOf t i) h (F .timed i)))
 
 -- "the best waiter", over the packed tables
-best-by : (s : Model) (kind object : ℕ) (a : Awaited) → ((w : Option Wait) → eqb (kindCode w) kind and eqb (objectCode w) object ≡ waitIsFor w a)
-    → bestAt (pack s) kind object ≡ idOf (bestWaiter (s .tables) a)
+pub best-pack : (s : Model) (a : Awaited) → bestAt (pack s) (awaitedKind a) (awaitedObject a) ≡ idOf (bestWaiter (s .tables) a)
 unfolding bestOf bestWaiter waitersOf pack
-best-by s kind object a h = rw (
-  items-taskListOf (s .tables .waiting),
+best-pack s a = rw (
+  items-taskListOf (s .tables .tasks .waiting),
   fun-ext (level-read (s .tables) (s .clock)),
-  fun-ext (λ i. test (kind-read (s .tables) (s .clock) i) (object-read (s .tables) (s .clock) i) ∙ h (waitOf (s .tables) i)),
+  fun-ext (λ i. test (kind-read (s .tables) (s .clock) i) (object-read (s .tables) (s .clock) i) ∙ coded-wait (waitOf (s .tables) i) a),
 ) refl
   where
-    test : {x y u v : ℕ} → x ≡ u → y ≡ v → eqb x kind and eqb y object ≡ eqb u kind and eqb v object
+    test : {x y u v : ℕ} → x ≡ u → y ≡ v → eqb x (awaitedKind a) and eqb y (awaitedObject a) ≡ eqb u (awaitedKind a) and eqb v (awaitedObject a)
     test e f = rw (e, f) refl
-
-pub best-mutex : (s : Model) (m : ℕ) → bestAt (pack s) onMutex m ≡ idOf (bestWaiter (s .tables) (mutexOf m))
-best-mutex s m = best-by s onMutex m (mutexOf m) (λ w. coded-mutex w m)
-
-pub best-sem : (s : Model) (k : ℕ) → bestAt (pack s) onSemaphore k ≡ idOf (bestWaiter (s .tables) (semOf k))
-best-sem s k = best-by s onSemaphore k (semOf k) (λ w. coded-sem w k)
 
 -- the chain of a mutex
 module _ (s : Model) (F : Facts (s .tables)) where
-  pub chain-pack : (m : ℕ) → chainFrom (filled maxTasks (nextAt ((pack s) .tasks) ((pack s) .mutexes))) (ownerAt ((pack s) .mutexes) m) ((pack s) .tasks .n) ≡ chainOf (s .tables) m
-  unfolding chainOf pack packTasks
-  chain-pack m = walk-ext (nextIn (filled maxTasks (nextAt ((pack s) .tasks) ((pack s) .mutexes)))) (next (s .tables)) (next-pack s F) (tasks (s .tables)) (taskAt (ownerAt ((pack s) .mutexes) m))
-      ∙ ap (walk (tasks (s .tables)) (next (s .tables))) (ap taskAt (owner-read (s .tables) m) ∙ owner-back (s .tables) F m)
+  pub chain-pack : (m : ℕ) → chainFrom (filled maxTasks (nextAt ((pack s) .tasks) ((pack s) .mutexes))) (ownerAt ((pack s) .mutexes) m) ((pack s) .tasks .n) ≡ chainOf (s .tables) (mutexOf m)
+  unfolding chainOf pack packTasks ownerAwaited
+  chain-pack m = walk-ext (nextIn (filled maxTasks (nextAt ((pack s) .tasks) ((pack s) .mutexes)))) (next (s .tables)) (next-pack s F) (taskCount (s .tables)) (taskAt (ownerAt ((pack s) .mutexes) m))
+      ∙ ap (walk (taskCount (s .tables)) (next (s .tables))) (ap taskAt (owner-read (s .tables) m) ∙ owner-back (s .tables) F m)

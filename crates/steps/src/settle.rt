@@ -2,12 +2,12 @@
 ghost use mathlib.Core.Path.{_≡_};
 ghost use Rattle.steps.specs.Machine.{resettled, settled, without, ran, displaced, dispatched, woke, lined, blockedOn};
 use crate::tables;
-use task_lists::TaskList;
 use record::FOREVER;
 use record::NONE;
 use record::State;
 use record::TASKS;
 use record::leads;
+use task_lists::TaskList;
 
 // The ready order by the new levels: those whose level changed, and then the woken ones, by id at the tail of their level.
 fn resettle(q: TaskList, old: [u8; TASKS], new: [u8; TASKS], woken: [u8; TASKS], n: u8) -> TaskList

@@ -4,15 +4,18 @@ use Rattle.record.specs.Reads.{newLevels}
 use Rattle.record.proofs.leads.new_levels.Statement.{statement}
 use Rattle.record.proofs.leads.new_levels.Tie as tie
 
-lends-of-requires : tie.Need-lends-of-requires
-lends-of-requires c κs = search needs
+heirs-of-requires : tie.Need-heirs-of-requires
+heirs-of-requires c κs = search needs
+
+leads-of-requires : tie.Need-leads-of-requires
+leads-of-requires c κs = search needs
 
 levels-of-requires : tie.Need-levels-of-requires
 levels-of-requires c κs = search needs
 
 returns : tie.Need-returns
 unfolding newLevels
-returns c = simp (c .levels-of .ensures, c .before .before .before .lends-of .ensures)
+returns c = simp (c .levels-of .ensures, c .before .before .before .leads-of .ensures, c .before .before .before .before .heirs-of .ensures)
 
 pub new-levels-spec : {M : Type 1} → statement M
-new-levels-spec = tie.close (tie.spec lends-of-requires levels-of-requires returns)
+new-levels-spec = tie.close (tie.spec heirs-of-requires leads-of-requires levels-of-requires returns)

@@ -3,7 +3,7 @@ use borrow.Author.Needs.{needs}
 use borrow.Author.Tests.{eq-eqb, ne-eqb}
 use mathlib.Core.Path.{ap}
 use Prim.Native.Nat.{ℕ}
-use Rattle.record.specs.Setters.{withMutexes}
+use Rattle.record.specs.Setters.{putMutexes}
 use Rattle.steps.specs.Machine.{ownerSet, passed}
 use Rattle.steps.proofs.waits.pass.Statement.{statement}
 use Rattle.steps.proofs.waits.pass.Tie as tie
@@ -13,7 +13,7 @@ set-owner-requires c κs = search needs
 
 returns : tie.Need-returns
 unfolding passed
-returns c = let a = c .before .before .args in simp (c .before .set-owner .ensures, eq-eqb _ _ (c .if1 .taken)) (ap (λ (w : ℕ). withMutexes (a .s) (ownerSet (a .s .mutexes) (a .m) w)) (c .if1 .taken))
+returns c = let a = c .before .before .args in simp (c .before .set-owner .ensures, eq-eqb _ _ (c .if1 .taken)) (ap (λ (w : ℕ). putMutexes (a .s) (ownerSet (a .s .mutexes) (a .m) w)) (c .if1 .taken))
 
 only-requires : tie.Need-only-requires
 only-requires c κs = search needs
