@@ -51,7 +51,7 @@ module _ {next : ℕ → Option ℕ} where
   not-again : (i : ℕ) {l : List ℕ} → Chain next (next i) l → occ i l ≡ 0
   not-again i {l} c = elim (decLe 1 (occ i l)) [ yes m ↦ absurd (no-ring (link c) (mem-from c i m)) | no m ↦ omega arith ]
 
-  distinct : {o : Option ℕ} {l : List ℕ} → Chain next o l → (y : ℕ) → occ y l ≤ 1
+  pub distinct : {o : Option ℕ} {l : List ℕ} → Chain next o l → (y : ℕ) → occ y l ≤ 1
   unfolding occ
   distinct end y = omega arith
   distinct (link {i = i} {l = l} c) y = elim (ℕ-discrete i y) [

@@ -5,7 +5,7 @@ use mathlib.Core.Option.{Option, none, some}
 use Prim.Native.Nat.{ℕ, zero, suc, _+_, _≤_, _<_}
 use native.Mathlib.Omega.{arith}
 use native.Mathlib.Decide.{ℕ-discrete, decLt}
-use lib.ListN.{length}
+use lib.ListN.{length, getD}
 use borrow.Author.Tests.{lt-ltb, le-ltb, eq-eqb, ne-eqb}
 use Rattle.lists.specs.Count.{eqn, occ, below, opt}
 
@@ -94,3 +94,19 @@ total-le (suc n) l h = omega (arith, total-le n l h, h n)
 -- distinct numbers below n are at most n
 pub pigeonhole : (n : ℕ) (l : List ℕ) → ((y : ℕ) → occ y l ≤ 1) → ((y : ℕ) → 1 ≤ occ y l → y < n) → length l ≤ n
 pigeonhole n l d b = omega (arith, total-length n l b, total-le n l d)
+
+-- what stands at a place stands in the list
+occ-at : (l : List ℕ) (i : ℕ) → i < length l → 1 ≤ occ (getD l i 0) l
+unfolding occ
+occ-at [] i h = absurd (omega arith)
+occ-at (x ∷ l) zero h = occ-head x l
+occ-at (x ∷ l) (suc i) h = omega (arith, occ-at l i (omega arith))
+
+-- what stands in a list once stands at one place only
+pub one-place : (l : List ℕ) → ((y : ℕ) → occ y l ≤ 1) → (i j : ℕ) → i < length l → j < length l → getD l i 0 ≡ getD l j 0 → i ≡ j
+unfolding occ
+one-place [] d i j h k e = absurd (omega arith)
+one-place (x ∷ l) d zero zero h k e = refl
+one-place (x ∷ l) d zero (suc j) h k e = absurd (omega (arith, d x, occ-at l j (omega arith), eqn-at x x refl, ap (λ y. occ y l) e))
+one-place (x ∷ l) d (suc i) zero h k e = absurd (omega (arith, d x, occ-at l i (omega arith), eqn-at x x refl, ap (λ y. occ y l) e))
+one-place (x ∷ l) d (suc i) (suc j) h k e = ap suc (one-place l (λ y. omega (arith, d y)) i j (omega arith) (omega arith) e)

@@ -1,18 +1,12 @@
 -- A table of any size filled place by place: the start, one more place, the end.
 use mathlib.Core.Path.{_≡_, refl, _∙_}
-use mathlib.Core.List.{List, [], _∷_, _++_}
-use Prim.Native.Nat.{ℕ, zero, suc, _+_, _<_}
+use mathlib.Core.List.{List, _++_}
+use Prim.Native.Nat.{ℕ, _+_, _<_}
 use native.Mathlib.Omega.{arith}
 use native.Mathlib.Numerals.{add-one}
-use lib.ListN.{length, getD, set, drop, replicate, length-replicate}
+use lib.ListN.{set, drop, replicate, length-replicate}
 use Rattle.lists.specs.Table.{filled}
 use Rattle.lists.specs.TableLaws.{fill-step, fill-end}
-
--- what stands at a place of a table, whatever stands for no place
-pub read-any : (l : List ℕ) (i d e : ℕ) → i < length l → getD l i d ≡ getD l i e
-read-any [] i d e h = absurd (omega arith)
-read-any (x ∷ l) zero d e h = refl
-read-any (x ∷ l) (suc i) d e h = read-any l i d e (omega arith)
 
 -- a table of N places that held d, its first i places filled
 abbrev pub soFar : ℕ → (ℕ → ℕ) → ℕ → ℕ → List ℕ

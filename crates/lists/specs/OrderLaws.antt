@@ -8,8 +8,9 @@ use Prim.Native.Nat.{ℕ, zero, suc, _+_, _≤_, _<_}
 use native.Mathlib.Omega.{arith}
 use native.Mathlib.Decide.{ℕ-discrete, decLt}
 use lib.Dec.{ltb, eqb}
+use lib.ListN.{length}
 use lib.Seq.{append-snoc}
-use borrow.Author.Tests.{ltb-true, ltb-false, leb-true, leb-false, eqb-true, eqb-false, not-true, lt-ltb, le-ltb, le-leb, eq-eqb}
+use borrow.Author.Tests.{ltb-true, ltb-false, leb-true, leb-false, eqb-true, eqb-false, not-true, lt-ltb, le-ltb, le-leb, eq-eqb, ne-eqb}
 use Rattle.lists.specs.Test.{_and_}
 use Rattle.lists.specs.Count.{eqn, occ, member, below}
 use Rattle.lists.specs.Order.{keep, range, byId, place, insertTail, insertHead, insertAll, stable, Asc, ascb, Ties, tiesb, leastOf, leastFirst, before, inside}
@@ -261,6 +262,11 @@ least-none f [] e i = refl
 least-none f (x ∷ l) e i = none-some e refl
 
 -- up to the first x: without x, and nothing more often than in the list
+pub before-le : (x : ℕ) (l : List ℕ) → length (before x l) ≤ length l
+unfolding before
+before-le x [] = omega arith
+before-le x (y ∷ l) = by-test (λ (t : List ℕ). length t ≤ length (y ∷ l)) (eqb y x) (λ e. omega arith) (λ e. omega (arith, before-le x l))
+
 pub occ-before : (x y : ℕ) (l : List ℕ) → occ y (before x l) ≤ occ y l
 unfolding before occ
 occ-before x y [] = omega arith
@@ -310,3 +316,31 @@ asc-keep f p (x ∷ l) a = by-test (Asc f) (p x) (λ e. ((λ y m. a .0 y (keep-i
 pub stable-append : (f : ℕ → ℕ) (l xs : List ℕ) → Asc f l → stable f (l ++ xs) ≡ insertAll f xs l
 unfolding stable
 stable-append f l xs a = insertAll-append f l xs [] ∙ ap (insertAll f xs) (stable-asc f l a)
+
+-- all but x, and how often x stands there
+length-without : (x : ℕ) (l : List ℕ) → length l ≡ length (keep (λ y. not (eqb y x)) l) + occ x l
+unfolding keep occ
+length-without x [] = refl
+length-without x (y ∷ l) = elim (ℕ-discrete y x) [
+  | yes e ↦ rw (eq-eqb y x e) (omega (arith, length-without x l, eqn-at y x e))
+  | no n ↦ rw (ne-eqb y x n) (omega (arith, length-without x l, eqn-other y x n))
+]
+
+-- distinct numbers that all stand in k are no more than stand there
+pub embedded : (k l : List ℕ) → ((y : ℕ) → occ y l ≤ 1) → ((y : ℕ) → 1 ≤ occ y l → 1 ≤ occ y k) → length l ≤ length k
+unfolding occ
+embedded [] [] d h = omega arith
+embedded [] (x ∷ l) d h = absurd (omega (arith, h x (occ-head x l)))
+embedded (x ∷ k) l d h = omega (arith, length-without x l, d x, embedded k (keep p l) few (λ y m. stands y m))
+  where
+    p : ℕ → Bool
+    p y = not (eqb y x)
+
+    few : (y : ℕ) → occ y (keep p l) ≤ 1
+    few y = elim (which (p y)) [ inl e ↦ omega (arith, occ-kept p y l e, d y) | inr e ↦ omega (arith, occ-dropped p y l e) ]
+
+    stands : (y : ℕ) → 1 ≤ occ y (keep p l) → 1 ≤ occ y k
+    stands y m = elim (ℕ-discrete x y) [
+      | yes e ↦ absurd (omega (arith, occ-dropped p y l (rw (eq-eqb y x (sym e)) refl)))
+      | no n ↦ omega (arith, h y (omega (arith, occ-kept p y l (rw (ne-eqb y x (λ e. n (sym e))) refl))), eqn-other x y n)
+    ]

@@ -20,6 +20,12 @@ module _ {A : Type 0} where
   getD-tail d k (x ∷ l) zero = refl
   getD-tail d k (x ∷ l) (suc i) = getD-tail d k l i
 
+  -- what stands at a place, whatever stands for no place
+  pub read-any : (l : List A) (i : ℕ) (d e : A) → i < length l → getD l i d ≡ getD l i e
+  read-any [] i d e h = absurd (omega arith)
+  read-any (x ∷ l) zero d e h = refl
+  read-any (x ∷ l) (suc i) d e h = read-any l i d e (omega arith)
+
   pub snoc-default : (d : A) (l : List A) (i : ℕ) → getD (l ++ (d ∷ [])) i d ≡ getD l i d
   snoc-default d l i = getD-tail d 1 l i
 

@@ -9,7 +9,7 @@ use lib.ListN.{length, getD, set, List·getD-map}
 use lib.Seq.{ext-getD}
 use Rattle.lists.specs.Table.{pad}
 use Rattle.lists.specs.TableLaws.{snoc-default, length-snoc, length-pad, getD-pad}
-use Rattle.rules.specs.Sizes.{maxTasks}
+use Rattle.rules.specs.Sizes.{taskPlaces}
 use Rattle.rules.specs.Tables.{Tables, Wait, taskCount, waitOf, ownerOf}  -- keep
 
 -- the two answers of a test
@@ -40,5 +40,5 @@ module _ {A B : Type 0} (f : A → B) where
   map-snoc (x ∷ l) a = ap (f x ∷_) (map-snoc l a)
 
 -- a column of codes of waits, read at a place
-pub wait-code : (t : Tables) (f : Option Wait → ℕ) (i : ℕ) → f none ≡ 0 → getD (pad maxTasks 0 (map f (t .tasks .waits))) i 0 ≡ f (waitOf t i)
-wait-code t f i e = getD-pad maxTasks 0 (map f (t .tasks .waits)) i ∙ ap (getD (map f (t .tasks .waits)) i) (sym e) ∙ List·getD-map f (t .tasks .waits) i none
+pub wait-code : (t : Tables) (f : Option Wait → ℕ) (i : ℕ) → f none ≡ 0 → getD (pad taskPlaces 0 (map f (t .tasks .waits))) i 0 ≡ f (waitOf t i)
+wait-code t f i e = getD-pad taskPlaces 0 (map f (t .tasks .waits)) i ∙ ap (getD (map f (t .tasks .waits)) i) (sym e) ∙ List·getD-map f (t .tasks .waits) i none

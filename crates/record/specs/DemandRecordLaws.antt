@@ -1,25 +1,30 @@
 -- Demand 3 holds of the record: each call on the packing of a sound state is the packed call of the rules. And a refusal changes no record.
-use mathlib.Core.Path.{_≡_, refl, ap, sym, _∙_, fun-ext}
+use mathlib.Core.Path.{_≡_, refl, ap, sym, _∙_, fun-ext, subst}
 use mathlib.Core.List.{List, [], _∷_}
 use mathlib.Core.Bool.{Bool, true, false, cond}
+use mathlib.Core.Logic.{_⊎_, inl, inr}
 use mathlib.Core.Option.{Option, none, some}
-use Prim.Native.Nat.{ℕ, _<_}
+use Prim.Native.Nat.{ℕ, _≤_, _<_}
 use native.Mathlib.Omega.{arith}
 use lib.Dec.{leb}
 use lib.ListN.{length}
 use Rattle.lists.specs.TestLaws.{by-test, and-l}
+use Rattle.rules.specs.Tables.{mutexOf}
+use Rattle.rules.specs.Levels.{linksOf}
 use Rattle.rules.specs.Step.{Step, task, mutex, sem, start, lock, unlock, pend, post, flush, sleep, yield, hold, free, tick, level, outcome}
 use Rattle.rules.specs.Refusal.{Row, refusals, firstRow}
 use Rattle.rules.specs.Log.{logLine, withRoom, Call, inRoom, call}
 use Rattle.rules.specs.Invariant.{Inv}
 use Rattle.rules.specs.StepLaws.{step-inv, fresh-inv}
 use Rattle.rules.specs.SoundLaws.{inv-sound}
-use Rattle.rules.specs.Demand.{eventOf, events, after}
+use Rattle.rules.specs.History.{toldFrom}
+use Rattle.rules.specs.Demand.{Demand, eventOf, events, after, toldIn}
 use Rattle.rules.specs.RefusalLaws.{call-by, refused-unchanged, sound-stands}
-use Rattle.rules.specs.DemandLaws.{call-inv, demand-3}
+use Rattle.rules.specs.DemandLaws.{call-inv, demand-3-from, demand-3}
+use Rattle.rules.specs.LinkLaws.{lock-links}
 use Rattle.task_lists.specs.TaskList.{noId, idOf}
 use Rattle.walks.specs.Walk.{taskAt}
-use Rattle.record.specs.Record.{view, pack}
+use Rattle.record.specs.Record.{viewTables, view, pack}
 use Rattle.record.specs.SoundRecord.{tidyb, soundOf}
 use Rattle.record.specs.StepRecord.{stepFor, numberOf, valueOf, runOf, answerFor, outFor, stays, stepOf}
 use Rattle.record.specs.GoodRecord.{Typed}
@@ -27,10 +32,11 @@ use Rattle.record.specs.TidyLaws.{running-id}
 use Rattle.record.specs.PackLaws.{id-back}
 use Rattle.record.specs.SoundPackLaws.{view-pack, pack-sound, sound-view, sound-pack}
 use Rattle.record.specs.ColumnLaws.{chosen}
-use Rattle.record.specs.DemandRecord.{freshRecord, requestFor, readOut, standingIn, inMemory, callRecord, eventsRecord, afterRecord, answerRecord, Demand-3-record}
+use Rattle.record.specs.DemandRecord.{freshRecord, requestFor, readOut, standingIn, inMemory, callRecord, eventsRecord, afterRecord, answerRecord, Demand-3-record-from, Demand-3-record}
 use Rattle.record.specs.declared.State.{State}  -- keep
 use Rattle.record.specs.declared.Out.{Out}  -- keep
 use Rattle.record.specs.declared.Request.{Request}  -- keep
+use Rattle.record.specs.declared.Request.the-variants.{Task, Mutex, Sem, Start, Lock, Unlock, Pend, Post, Flush, Sleep, Yield, Hold, Free, Tick, Level, Outcome}  -- keep
 use Rattle.rules.specs.State.{State as Model, fresh}  -- keep
 use Rattle.rules.specs.Answer.{Answer as Ruled, decide, stepSound, standing, stopped, step}  -- keep
 
@@ -52,6 +58,26 @@ step-back free = refl
 step-back tick = refl
 step-back (level i) = refl
 step-back (outcome i) = refl
+
+-- and every request is that of a step, so that demand 3's list reaches it
+pub request-back : (x : Request) → requestFor (stepFor x) ≡ x
+unfolding stepFor requestFor
+request-back (Task p) = refl
+request-back (Mutex k) = refl
+request-back (Sem count max) = refl
+request-back Start = refl
+request-back (Lock m t) = refl
+request-back (Unlock m) = refl
+request-back (Pend k t) = refl
+request-back (Post k) = refl
+request-back (Flush k) = refl
+request-back (Sleep t) = refl
+request-back Yield = refl
+request-back Hold = refl
+request-back Free = refl
+request-back Tick = refl
+request-back (Level i) = refl
+request-back (Outcome i) = refl
 
 -- an answer's three numbers are read back from its cases
 module _ (k v : ℕ) (r : Option ℕ) where
@@ -170,7 +196,22 @@ events-pack (c ∷ cs) s I = ap (λ o. eventOf (c .made) (readOut o) ∷ eventsR
     ∙ ap (λ a. eventOf (c .made) a ∷ eventsRecord (pack ((call s c) .state)) cs) (read-out (call s c) (fair-call s I c))
     ∙ ap (λ l. eventOf (c .made) (call s c) ∷ l) (events-pack cs ((call s c) .state) (call-inv s I c))
 
--- demand 3, over every list of calls from the fresh record with an accepted start
+-- demand 3, over every list of calls from any sound record
+pub demand-3-record-from : (k : State) → Typed k → soundOf k ≡ true → Demand-3-record-from k
+demand-3-record-from k T e = subst (λ z. Claim z) (sound-pack k e T)
+    (λ cs. rw (events-pack cs s I, after-pack cs s I, answer-pack (after s cs) (after-inv cs s I)) (demand-3-from s (inv-sound s I) cs))
+  where
+    s : Model
+    s = view k
+
+    I : Inv s
+    I = sound-view k e
+
+    Claim : State → Type 0
+    Claim z = (cs : List Call) → (toldFrom (toldIn s) (eventsRecord z cs)) .started ≡ true
+        → Demand (toldFrom (toldIn s) (eventsRecord z cs)) (answerRecord (afterRecord z cs))
+
+-- and from the fresh record with an accepted start
 pub demand-3-record : Demand-3-record
 unfolding freshRecord
 demand-3-record cs = rw (events-pack cs fresh fresh-inv, after-pack cs fresh fresh-inv, answer-pack (after fresh cs) (after-inv cs fresh fresh-inv)) (demand-3 cs)
@@ -193,3 +234,35 @@ refused-stays k x T = by-test (λ (o : Out). 1 < numberOf (o .answer) → o .sta
         let same : step (view k) (stepFor x) ≡ a = step-is (view k) (sound-view k e) (stepFor x) in
         let above : 1 < a .number = omega (arith, number-back (a .number) (a .value) (a .run)) in
         ap pack (rw same at (refused-unchanged (view k) (stepFor x)) above) ∙ sound-pack k e T
+
+-- and with a log line: demand 1 for every call
+pub call-stays : (k : State) (c : Call) → Typed k → 1 < numberOf ((callRecord k c) .answer) → (callRecord k c) .state ≡ k
+unfolding callRecord inMemory stays
+call-stays k c T = go (c .room)
+  where
+    o : Out
+    o = stepOf k (requestFor (c .made))
+
+    go : (room : Option ℕ) → 1 < numberOf ((inMemory k room o) .answer) → (inMemory k room o) .state ≡ k
+    go none = refused-stays k (requestFor (c .made)) T
+    go (some room) = by-test (λ (z : Out). 1 < numberOf (z .answer) → z .state ≡ k) (leb (length (logLine (readOut o))) room)
+        (λ e. refused-stays k (requestFor (c .made)) T) (λ e h. refl)
+
+-- "Links (lock answered 1 or 12)": the value is the length of the defined chain up to the caller, 1 to 15
+pub lock-links-record : (k : State) (m t : ℕ) → (numberOf ((stepOf k (Lock m t)) .answer) ≡ 1) ⊎ (numberOf ((stepOf k (Lock m t)) .answer) ≡ 12)
+    → (r : ℕ) × (taskAt (k .running) ≡ some r) × (valueOf ((stepOf k (Lock m t)) .answer) ≡ linksOf (viewTables k) r (mutexOf m))
+    × (1 ≤ valueOf ((stepOf k (Lock m t)) .answer)) × (valueOf ((stepOf k (Lock m t)) .answer) ≤ 15)
+unfolding stepOf outFor stepFor stays view
+lock-links-record k m t = by-test (λ (o : Out). Claim (numberOf (o .answer)) (valueOf (o .answer))) (soundOf k)
+    (λ e. rw (number-back (a .number) (a .value) (a .run), value-back (a .number) (a .value) (a .run)) (ruled e))
+    (λ e h. absurd (elim h [ inl z ↦ omega (arith, number-back 15 0 none) | inr z ↦ omega (arith, number-back 15 0 none) ]))
+  where
+    a : Ruled
+    a = stepSound (view k) (lock m t)
+
+    Claim : ℕ → ℕ → Type 0
+    Claim number value = (number ≡ 1) ⊎ (number ≡ 12)
+        → (r : ℕ) × (taskAt (k .running) ≡ some r) × (value ≡ linksOf (viewTables k) r (mutexOf m)) × (1 ≤ value) × (value ≤ 15)
+
+    ruled : soundOf k ≡ true → Claim (a .number) (a .value)
+    ruled e = subst (λ (z : Ruled). Claim (z .number) (z .value)) (step-is (view k) (sound-view k e) (lock m t)) (lock-links (view k) (sound-view k e) m t)

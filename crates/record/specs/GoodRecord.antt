@@ -2,19 +2,19 @@
 use mathlib.Core.Path.{_≡_}
 use Prim.Native.Nat.{ℕ, _<_}
 use lib.ListN.{length, getD}
-use Rattle.rules.specs.Sizes.{maxTasks, maxMutexes, maxSemaphores, wordSize}
+use Rattle.rules.specs.Sizes.{taskPlaces, maxMutexes, maxSemaphores, wordSize}
 use Rattle.task_lists.specs.TaskList.{places}
 use Rattle.record.specs.declared.State.{State}  -- keep
 
 -- what holds of every value of the record's type: arrays have their lengths, and numbers fit
 pub record Typed (k : State) : Type 0 where
-  pub due-length : length (k .tasks .due) ≡ maxTasks
-  pub priority-length : length (k .tasks .priority) ≡ maxTasks
-  pub level-length : length (k .tasks .level) ≡ maxTasks
-  pub outcome-length : length (k .tasks .outcome) ≡ maxTasks
-  pub wait-length : length (k .tasks .wait) ≡ maxTasks
-  pub object-length : length (k .tasks .object) ≡ maxTasks
-  pub timed-length : length (k .tasks .timed) ≡ maxTasks
+  pub due-length : length (k .tasks .due) ≡ taskPlaces
+  pub priority-length : length (k .tasks .priority) ≡ taskPlaces
+  pub level-length : length (k .tasks .level) ≡ taskPlaces
+  pub outcome-length : length (k .tasks .outcome) ≡ taskPlaces
+  pub wait-length : length (k .tasks .wait) ≡ taskPlaces
+  pub object-length : length (k .tasks .object) ≡ taskPlaces
+  pub timed-length : length (k .tasks .timed) ≡ taskPlaces
   pub kind-length : length (k .mutexes .kind) ≡ maxMutexes
   pub owner-length : length (k .mutexes .owner) ≡ maxMutexes
   pub count-length : length (k .semaphores .count) ≡ maxSemaphores

@@ -13,8 +13,8 @@ use borrow.Author.Tests.{ltb-true, leb-true, eqb-true, eqb-false, not-true, lt-l
 use Rattle.lists.specs.Test.{_and_, someb}
 use Rattle.lists.specs.Table.{pad, filled}
 use Rattle.lists.specs.TestLaws.{and-l, and-r, or-true}
-use Rattle.lists.specs.TableLaws.{map-filled, pad-filled, pad-take}
-use Rattle.rules.specs.Sizes.{maxTasks, maxMutexes, maxSemaphores, wordSize}
+use Rattle.lists.specs.TableLaws.{map-filled, pad-filled, pad-take, read-any}
+use Rattle.rules.specs.Sizes.{taskPlaces, maxMutexes, maxSemaphores, wordSize}
 use Rattle.rules.specs.Tables.{awaitedKind, awaitedBy, awaitedObject, Wait, Tables, taskCount, mutexCount, semCount}
 use Rattle.rules.specs.Levels.{levelIn}
 use Rattle.rules.specs.Step.{hold, level, outcome}
@@ -23,7 +23,7 @@ use Rattle.rules.specs.History.{at}
 use Rattle.task_lists.specs.TaskList.{places, noId, items, taskListOf, idOf}
 use Rattle.task_lists.specs.TaskListLaws.{list-of-items}
 use Rattle.walks.specs.Walk.{taskAt}
-use Rattle.walks.specs.WalkLaws.{other-default, task-in}
+use Rattle.walks.specs.WalkLaws.{task-in}
 use Rattle.record.specs.Record.{ticksLeft, dueAt, leftIn, waitWith, waitIn, waitAt, viewTables, view, leftCode, kindCode, objectCode, timedCode, dueCode, packTasks, packMutexes, packSemaphores, pack}
 use Rattle.record.specs.SoundRecord.{usedTaskb, unusedTaskb, idb, mutexPlaceb, semPlaceb, taskListTidyb, tidyb, levelsb}
 use Rattle.record.specs.Setters.{putTasks, putLevel}
@@ -39,7 +39,7 @@ use Rattle.rules.specs.State.{State as Model, levelOf}  -- keep
 
 -- the table of levels
 unfoldable pub levelColumn : Tables → List ℕ
-levelColumn t = pad maxTasks 0 (filled (taskCount t) (levelIn t))
+levelColumn t = pad taskPlaces 0 (filled (taskCount t) (levelIn t))
 
 -- the packing of a state, but with these levels
 unfoldable pub packWith : List ℕ → Model → State
@@ -152,18 +152,18 @@ same-state a b p1 p2 p3 p4 p5 p6 p7 p8 p9 = λ i. record { tasks = p1 i; semapho
 pub id-back : (x : ℕ) → idb x ≡ true → idOf (taskAt x) ≡ x
 unfolding idOf
 id-back x e = elim (or-true _ _ e) [
-  | inl f ↦ rw (task-in x (ltb-true x maxTasks f)) refl
+  | inl f ↦ rw (task-in x (ltb-true x taskPlaces f)) refl
   | inr f ↦ rw (eqb-true x noId f) refl
 ]
 
-pub task-back : (o : Option ℕ) → ((i : ℕ) → o ≡ some i → i < maxTasks) → taskAt (idOf o) ≡ o
+pub task-back : (o : Option ℕ) → ((i : ℕ) → o ≡ some i → i < taskPlaces) → taskAt (idOf o) ≡ o
 unfolding idOf
 task-back none h = refl
 task-back (some i) h = task-in i (h i refl)
 
 -- the tables of tasks
 module _ (k : State) (T : Typed k) (tidy : tidyb k ≡ true) where
-  unused-at : (i : ℕ) → k .tasks .n ≤ i → i < maxTasks → Unused (k .tasks) i
+  unused-at : (i : ℕ) → k .tasks .n ≤ i → i < taskPlaces → Unused (k .tasks) i
   unused-at i h l = unused-places (k .tasks) i (unused-task k tidy i h l)
 
   codes-at : (i : ℕ) → i < k .tasks .n
@@ -171,22 +171,22 @@ module _ (k : State) (T : Typed k) (tidy : tidyb k ≡ true) where
   codes-at i h = used-codes (k .tasks) (k .clock) i (T .clock-word) (T .due-word i) (used-task k tidy i h)
 
   -- a column of codes
-  code-column : (f : Option Wait → ℕ) (a : List ℕ) → length a ≡ maxTasks
-      → ((i : ℕ) → i < k .tasks .n → f (waitAt (k .tasks) (k .clock) i) ≡ getD a i 0) → ((i : ℕ) → k .tasks .n ≤ i → i < maxTasks → getD a i 0 ≡ 0)
-      → pad maxTasks 0 (map f (filled (k .tasks .n) (waitAt (k .tasks) (k .clock)))) ≡ a
-  code-column f a e u v = rw (map-filled f (k .tasks .n) (waitAt (k .tasks) (k .clock))) (pad-filled maxTasks 0 (k .tasks .n) (λ i. f (waitAt (k .tasks) (k .clock) i)) a (tasks-fit k tidy) e u v)
+  code-column : (f : Option Wait → ℕ) (a : List ℕ) → length a ≡ taskPlaces
+      → ((i : ℕ) → i < k .tasks .n → f (waitAt (k .tasks) (k .clock) i) ≡ getD a i 0) → ((i : ℕ) → k .tasks .n ≤ i → i < taskPlaces → getD a i 0 ≡ 0)
+      → pad taskPlaces 0 (map f (filled (k .tasks .n) (waitAt (k .tasks) (k .clock)))) ≡ a
+  code-column f a e u v = rw (map-filled f (k .tasks .n) (waitAt (k .tasks) (k .clock))) (pad-filled taskPlaces 0 (k .tasks .n) (λ i. f (waitAt (k .tasks) (k .clock) i)) a (tasks-fit k tidy) e u v)
 
-  good-levels : levelsb k ≡ true → pad maxTasks 0 (filled (taskCount (viewTables k)) (levelIn (viewTables k))) ≡ k .tasks .level
-  good-levels lv = pad-filled maxTasks 0 (taskCount (viewTables k)) (levelIn (viewTables k)) (k .tasks .level) (omega (arith, tasks-fit k tidy, view-tasks k T tidy)) (T .level-length)
+  good-levels : levelsb k ≡ true → pad taskPlaces 0 (filled (taskCount (viewTables k)) (levelIn (viewTables k))) ≡ k .tasks .level
+  good-levels lv = pad-filled taskPlaces 0 (taskCount (viewTables k)) (levelIn (viewTables k)) (k .tasks .level) (omega (arith, tasks-fit k tidy, view-tasks k T tidy)) (T .level-length)
       (λ i h. sym (stored-level k lv i (omega (arith, view-tasks k T tidy)))) (λ i h l. unused-at i (omega (arith, view-tasks k T tidy)) l .no-level)
 
   good-tasks : levelsb k ≡ true → packTasks (viewTables k) (k .clock) ≡ k .tasks
   unfolding packTasks viewTables
   good-tasks lv = same-tasks _ _
       (code-column (dueCode (k .clock)) (k .tasks .due) (T .due-length) (λ i h. codes-at i h .3) (λ i h l. unused-at i h l .no-due))
-      (pad-take maxTasks 0 (k .tasks .n) (k .tasks .priority) (tasks-fit k tidy) (T .priority-length) (λ i h l. unused-at i h l .no-priority))
+      (pad-take taskPlaces 0 (k .tasks .n) (k .tasks .priority) (tasks-fit k tidy) (T .priority-length) (λ i h l. unused-at i h l .no-priority))
       (good-levels lv)
-      (pad-take maxTasks 0 (k .tasks .n) (k .tasks .outcome) (tasks-fit k tidy) (T .outcome-length) (λ i h l. unused-at i h l .no-outcome))
+      (pad-take taskPlaces 0 (k .tasks .n) (k .tasks .outcome) (tasks-fit k tidy) (T .outcome-length) (λ i h l. unused-at i h l .no-outcome))
       (code-column kindCode (k .tasks .wait) (T .wait-length) (λ i h. codes-at i h .0) (λ i h l. unused-at i h l .no-wait))
       (code-column objectCode (k .tasks .object) (T .object-length) (λ i h. codes-at i h .1) (λ i h l. unused-at i h l .no-object))
       (code-column timedCode (k .tasks .timed) (T .timed-length) (λ i h. codes-at i h .2) (λ i h l. unused-at i h l .no-timed))
@@ -199,7 +199,7 @@ owners-back (x ∷ l) h = rw (id-back x (h 0 (omega arith)), owners-back l (λ i
 
 module _ (k : State) (T : Typed k) (tidy : tidyb k ≡ true) where
   other : (i : ℕ) → i < maxMutexes → getD (k .mutexes .owner) i 0 ≡ getD (k .mutexes .owner) i noId
-  other i h = other-default (k .mutexes .owner) i 0 noId (omega (arith, T .owner-length))
+  other i h = read-any (k .mutexes .owner) i 0 noId (omega (arith, T .owner-length))
 
   owner-in : (i : ℕ) → i < k .mutexes .n → idb (getD (k .mutexes .owner) i noId) ≡ true
   unfolding mutexPlaceb

@@ -15,7 +15,7 @@ use Rattle.lists.specs.TestLaws.{which, by-test}
 use Rattle.lists.specs.TableLaws.{length-filled, getD-filled, length-pad, getD-pad}
 use Rattle.chains.specs.Least.{leadsTo, leastLeading}
 use Rattle.chains.specs.LeastLaws.{least-start}
-use Rattle.rules.specs.Sizes.{maxTasks, maxMutexes, maxSemaphores, inheriting, onMutex}
+use Rattle.rules.specs.Sizes.{taskPlaces, maxMutexes, maxSemaphores, inheriting, onMutex}
 use Rattle.rules.specs.Tables.{awaitedKind, awaitedObject, outcomeOf, countOf, maximumOf}
 use Rattle.rules.specs.Levels.{ownerAwaited, heirAwaited, ofWait, next, lends, levelIn}
 use Rattle.rules.specs.Invariant.{Facts}
@@ -38,7 +38,7 @@ level-out t i h = omega (arith, least-start (λ j. leadsTo (taskCount t) (lends 
 -- the table of levels reads as the levels, at every place
 pub key-level : (t : Tables) (i : ℕ) → keyOf (levelColumn t) i ≡ levelIn t i
 unfolding levelColumn
-key-level t i = getD-pad maxTasks 0 (filled (taskCount t) (levelIn t)) i ∙ elim (decLt i (taskCount t)) [
+key-level t i = getD-pad taskPlaces 0 (filled (taskCount t) (levelIn t)) i ∙ elim (decLt i (taskCount t)) [
   | yes h ↦ getD-filled (taskCount t) (levelIn t) 0 i h
   | no h ↦ (let b : length (filled (taskCount t) (levelIn t)) ≤ i = omega (arith, length-filled (taskCount t) (levelIn t)) in
       List·getD-eq-default (filled (taskCount t) (levelIn t)) 0 b ∙ sym (level-out t i (omega arith)))
@@ -47,31 +47,31 @@ key-level t i = getD-pad maxTasks 0 (filled (taskCount t) (levelIn t)) i ∙ eli
 pub key-levels : (t : Tables) → keyOf (levelColumn t) ≡ levelIn t
 key-levels t = fun-ext (key-level t)
 
-pub length-levels : (t : Tables) → taskCount t ≤ maxTasks → length (levelColumn t) ≡ maxTasks
+pub length-levels : (t : Tables) → taskCount t ≤ taskPlaces → length (levelColumn t) ≡ taskPlaces
 unfolding levelColumn
-length-levels t h = length-pad maxTasks 0 (filled (taskCount t) (levelIn t)) (omega (arith, length-filled (taskCount t) (levelIn t)))
+length-levels t h = length-pad taskPlaces 0 (filled (taskCount t) (levelIn t)) (omega (arith, length-filled (taskCount t) (levelIn t)))
 
 -- the packed columns, read at every place
 module _ (t : Tables) (clock : ℕ) (i : ℕ) where
   pub kind-read : keyOf ((packTasks t clock) .wait) i ≡ kindCode (waitOf t i)
   unfolding packTasks kindCode
-  kind-read = getD-pad maxTasks 0 (map kindCode (t .tasks .waits)) i ∙ List·getD-map kindCode (t .tasks .waits) i none
+  kind-read = getD-pad taskPlaces 0 (map kindCode (t .tasks .waits)) i ∙ List·getD-map kindCode (t .tasks .waits) i none
 
   pub object-read : keyOf ((packTasks t clock) .object) i ≡ objectCode (waitOf t i)
   unfolding packTasks objectCode
-  object-read = getD-pad maxTasks 0 (map objectCode (t .tasks .waits)) i ∙ List·getD-map objectCode (t .tasks .waits) i none
+  object-read = getD-pad taskPlaces 0 (map objectCode (t .tasks .waits)) i ∙ List·getD-map objectCode (t .tasks .waits) i none
 
   pub timed-read : keyOf ((packTasks t clock) .timed) i ≡ timedCode (waitOf t i)
   unfolding packTasks timedCode
-  timed-read = getD-pad maxTasks 0 (map timedCode (t .tasks .waits)) i ∙ List·getD-map timedCode (t .tasks .waits) i none
+  timed-read = getD-pad taskPlaces 0 (map timedCode (t .tasks .waits)) i ∙ List·getD-map timedCode (t .tasks .waits) i none
 
   pub due-read : keyOf ((packTasks t clock) .due) i ≡ dueCode clock (waitOf t i)
   unfolding packTasks dueCode
-  due-read = getD-pad maxTasks 0 (map (dueCode clock) (t .tasks .waits)) i ∙ List·getD-map (dueCode clock) (t .tasks .waits) i none
+  due-read = getD-pad taskPlaces 0 (map (dueCode clock) (t .tasks .waits)) i ∙ List·getD-map (dueCode clock) (t .tasks .waits) i none
 
   pub priority-read : keyOf ((packTasks t clock) .priority) i ≡ priorityOf t i
   unfolding packTasks
-  priority-read = getD-pad maxTasks 0 (t .tasks .priorities) i
+  priority-read = getD-pad taskPlaces 0 (t .tasks .priorities) i
 
   pub level-read : keyOf ((packTasks t clock) .level) i ≡ levelIn t i
   unfolding packTasks levelColumn
@@ -79,7 +79,7 @@ module _ (t : Tables) (clock : ℕ) (i : ℕ) where
 
   pub outcome-read : keyOf ((packTasks t clock) .outcome) i ≡ outcomeOf t i
   unfolding packTasks
-  outcome-read = getD-pad maxTasks 0 (t .tasks .outcomes) i
+  outcome-read = getD-pad taskPlaces 0 (t .tasks .outcomes) i
 
 module _ (t : Tables) (m : ℕ) where
   pub owner-read : ownerAt (packMutexes t) m ≡ idOf (ownerOf t m)
@@ -128,25 +128,25 @@ module _ (t : Tables) (F : Facts t) where
   ]
 
   -- a table of what f gives, as a map
-  filled-next : (f : ℕ → ℕ) (g : ℕ → Option ℕ) → ((i : ℕ) → taskAt (f i) ≡ g i) → ((i : ℕ) → maxTasks ≤ i → g i ≡ none) → (i : ℕ) → nextIn (filled maxTasks f) i ≡ g i
-  filled-next f g e o i = elim (decLt i maxTasks) [
-    | yes h ↦ next-in (filled maxTasks f) i h ∙ ap taskAt (getD-filled maxTasks f 0 i h) ∙ e i
-    | no h ↦ next-out (filled maxTasks f) i (omega arith) ∙ sym (o i (omega arith))
+  filled-next : (f : ℕ → ℕ) (g : ℕ → Option ℕ) → ((i : ℕ) → taskAt (f i) ≡ g i) → ((i : ℕ) → taskPlaces ≤ i → g i ≡ none) → (i : ℕ) → nextIn (filled taskPlaces f) i ≡ g i
+  filled-next f g e o i = elim (decLt i taskPlaces) [
+    | yes h ↦ next-in (filled taskPlaces f) i h ∙ ap taskAt (getD-filled taskPlaces f 0 i h) ∙ e i
+    | no h ↦ next-out (filled taskPlaces f) i (omega arith) ∙ sym (o i (omega arith))
   ]
 
   -- the table of whom each task leads to, as a map
   led-table : (l : List ℕ) (f : Awaited → Option ℕ) → ((j : ℕ) → taskAt (getD l j noId) ≡ f (mutexOf j)) → ((j : ℕ) → f (semOf j) ≡ none) → f time ≡ none
-      → (clock : ℕ) (lv : List ℕ) (i : ℕ) → nextIn (filled maxTasks (leadsAt (putLevel (packTasks t clock) lv) l)) i ≡ ofWait f (waitOf t i)
+      → (clock : ℕ) (lv : List ℕ) (i : ℕ) → nextIn (filled taskPlaces (leadsAt (putLevel (packTasks t clock) lv) l)) i ≡ ofWait f (waitOf t i)
   unfolding ofWait
   led-table l f told no-sem no-time clock lv = filled-next _ (λ i. ofWait f (waitOf t i))
       (λ i. rw (kind-read t clock i, object-read t clock i) (led-code l f told no-sem no-time (waitOf t i)))
       (λ i h. rw (wait-out t (F .wait-column) i (omega (arith, F .few-tasks))) refl)
 
-  pub next-table : (clock : ℕ) (lv : List ℕ) (i : ℕ) → nextIn (filled maxTasks (nextAt (putLevel (packTasks t clock) lv) (packMutexes t))) i ≡ next t i
+  pub next-table : (clock : ℕ) (lv : List ℕ) (i : ℕ) → nextIn (filled taskPlaces (nextAt (putLevel (packTasks t clock) lv) (packMutexes t))) i ≡ next t i
   unfolding next ownerAwaited
   next-table = led-table ((packMutexes t) .owner) (ownerAwaited t) (λ j. ap taskAt (owner-read t j) ∙ owner-back t F j) (λ j. refl) refl
 
-  pub lends-table : (clock : ℕ) (lv : List ℕ) (i : ℕ) → nextIn (filled maxTasks (lendsAt (putLevel (packTasks t clock) lv) (packMutexes t))) i ≡ lends t i
+  pub lends-table : (clock : ℕ) (lv : List ℕ) (i : ℕ) → nextIn (filled taskPlaces (lendsAt (putLevel (packTasks t clock) lv) (packMutexes t))) i ≡ lends t i
   unfolding lends heirAwaited
   lends-table = led-table (filled maxMutexes (heirAt (packMutexes t))) (heirAwaited t) heir-code (λ j. refl) refl
 
@@ -166,22 +166,22 @@ module _ (t : Tables) (F : Facts t) where
       own = (packTasks t clock) .priority
 
       links : List ℕ
-      links = filled maxTasks (lendsAt (putLevel (packTasks t clock) lv) (packMutexes t))
+      links = filled taskPlaces (lendsAt (putLevel (packTasks t clock) lv) (packMutexes t))
 
       made : List ℕ
       made = raised own links n n
 
-      fuel : min n maxTasks ≡ n
+      fuel : min n taskPlaces ≡ n
       fuel = omega (arith, F .few-tasks)
 
       sizes : length made ≡ length (levelColumn t)
-      sizes = length-raised own links n n ∙ length-pad maxTasks 0 (t .tasks .priorities) (F .few-tasks) ∙ sym (length-levels t (F .few-tasks))
+      sizes = length-raised own links n n ∙ length-pad taskPlaces 0 (t .tasks .priorities) (F .few-tasks) ∙ sym (length-levels t (F .few-tasks))
 
       out : (i : ℕ) → n ≤ i → priorityOf t i ≡ 0
       out i h = List·getD-eq-default (t .tasks .priorities) 0 h
 
 module _ (s : Model) (F : Facts (s .tables)) where
-  pub next-pack : (i : ℕ) → nextIn (filled maxTasks (nextAt ((pack s) .tasks) ((pack s) .mutexes))) i ≡ next (s .tables) i
+  pub next-pack : (i : ℕ) → nextIn (filled taskPlaces (nextAt ((pack s) .tasks) ((pack s) .mutexes))) i ≡ next (s .tables) i
   unfolding pack
   next-pack = next-table (s .tables) F (s .clock) ((packTasks (s .tables) (s .clock)) .level)
 

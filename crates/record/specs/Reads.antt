@@ -5,7 +5,7 @@ use Prim.Native.Nat.{ℕ, min}
 use lib.Dec.{eqb}
 use lib.ListN.{getD}
 use Rattle.lists.specs.Table.{filled}
-use Rattle.rules.specs.Sizes.{maxTasks, maxMutexes, inheriting, onMutex}
+use Rattle.rules.specs.Sizes.{taskPlaces, maxMutexes, inheriting, onMutex}
 use Rattle.task_lists.specs.TaskList.{noId}
 use Rattle.walks.specs.Walk.{raised}
 use Rattle.record.specs.declared.Tasks.{Tasks}  -- keep
@@ -56,4 +56,4 @@ lendsAt t m = leadsAt t (filled maxMutexes (heirAt m))
 
 -- the own priorities, raised along the chains of waits on inheriting mutexes; ViewLaws proves them the levels as defined
 unfoldable pub newLevels : Tasks → Mutexes → List ℕ
-newLevels t m = raised (t .priority) (filled maxTasks (lendsAt t m)) (t .n) (min (t .n) maxTasks)
+newLevels t m = raised (t .priority) (filled taskPlaces (lendsAt t m)) (t .n) (min (t .n) taskPlaces)

@@ -8,7 +8,7 @@ use lib.ListN.{getD, take}
 use Rattle.lists.specs.Test.{someb}
 use Rattle.lists.specs.Table.{pad, filled}
 use Rattle.chains.specs.Chain.{on}
-use Rattle.rules.specs.Sizes.{maxTasks, maxMutexes, maxSemaphores, kinds, wordSize}
+use Rattle.rules.specs.Sizes.{taskPlaces, maxMutexes, maxSemaphores, kinds, wordSize}
 use Rattle.rules.specs.Tables.{taskCount, mutexCount, semCount}
 use Rattle.rules.specs.Levels.{levelIn}
 use Rattle.rules.specs.Step.{hold, level, outcome}
@@ -95,13 +95,13 @@ dueCode clock (some w) = leftCode clock (w .left)
 -- the record of a state: unused places and absent fields as in the fresh state, levels as defined
 unfoldable pub packTasks : Tables → ℕ → Tasks
 packTasks t clock = record {
-  due = pad maxTasks 0 (map (dueCode clock) (t .tasks .waits));
-  priority = pad maxTasks 0 (t .tasks .priorities);
-  level = pad maxTasks 0 (filled (taskCount t) (levelIn t));
-  outcome = pad maxTasks 0 (t .tasks .outcomes);
-  wait = pad maxTasks 0 (map kindCode (t .tasks .waits));
-  object = pad maxTasks 0 (map objectCode (t .tasks .waits));
-  timed = pad maxTasks 0 (map timedCode (t .tasks .waits));
+  due = pad taskPlaces 0 (map (dueCode clock) (t .tasks .waits));
+  priority = pad taskPlaces 0 (t .tasks .priorities);
+  level = pad taskPlaces 0 (filled (taskCount t) (levelIn t));
+  outcome = pad taskPlaces 0 (t .tasks .outcomes);
+  wait = pad taskPlaces 0 (map kindCode (t .tasks .waits));
+  object = pad taskPlaces 0 (map objectCode (t .tasks .waits));
+  timed = pad taskPlaces 0 (map timedCode (t .tasks .waits));
   n = taskCount t;
 }
 

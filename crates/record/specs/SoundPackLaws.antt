@@ -15,9 +15,9 @@ use Rattle.lists.specs.Count.{occ, below, opt}
 use Rattle.lists.specs.Table.{pad, filled}
 use Rattle.lists.specs.TestLaws.{which, by-test, and-l, and-r, true-and, or-l, or-r, true-all, none-some, some-same}
 use Rattle.lists.specs.CountLaws.{occ-opt, in-below, below-le, pigeonhole}
-use Rattle.lists.specs.TableLaws.{filled-is, take-pad, length-pad}
+use Rattle.lists.specs.TableLaws.{filled-is, take-pad, length-pad, read-any}
 use Rattle.chains.specs.Chain.{on}
-use Rattle.rules.specs.Sizes.{maxTasks, maxMutexes, maxSemaphores, kinds, wordSize, onMutex, onSemaphore, onTime}
+use Rattle.rules.specs.Sizes.{taskPlaces, maxMutexes, maxSemaphores, kinds, wordSize, onMutex, onSemaphore, onTime}
 use Rattle.rules.specs.Levels.{levelIn}
 use Rattle.rules.specs.Step.{hold}
 use Rattle.rules.specs.Sound.{soundb}
@@ -27,7 +27,6 @@ use Rattle.rules.specs.SoundLaws.{sound-inv, inv-sound}
 use Rattle.task_lists.specs.TaskList.{places, noId, taskListOf, idOf}
 use Rattle.task_lists.specs.TaskListLaws.{items-taskListOf, rest-taskListOf}
 use Rattle.walks.specs.Walk.{taskAt}
-use Rattle.walks.specs.WalkLaws.{other-default}
 use Rattle.record.specs.Record.{dueAt, leftIn, waitWith, waitIn, waitAt, viewTables, view, leftCode, kindCode, objectCode, timedCode, dueCode, packTasks, packMutexes, packSemaphores, pack}
 use Rattle.record.specs.SoundRecord.{usedTaskb, unusedTaskb, taskPlaceb, tasksTidyb, idb, mutexPlaceb, mutexesTidyb, semPlaceb, semaphoresTidyb, taskListTidyb, tidyb, levelsb, soundOf}
 use Rattle.record.specs.GoodRecord.{Typed}
@@ -59,7 +58,7 @@ module _ (clock : ℕ) (word : clock < wordSize) where
       go (semOf m) o = refl
       go time o = refl
 
-owner-list : (l : List (Option ℕ)) → ((m o : ℕ) → getD l m none ≡ some o → o < maxTasks) → map taskAt (map idOf l) ≡ l
+owner-list : (l : List (Option ℕ)) → ((m o : ℕ) → getD l m none ≡ some o → o < taskPlaces) → map taskAt (map idOf l) ≡ l
 owner-list [] h = refl
 owner-list (o ∷ l) h = rw (task-back o (h 0), owner-list l (λ m. h (suc m)))
 
@@ -96,8 +95,8 @@ module _ (s : Model) (F : Facts (s .tables)) (word : s .clock < wordSize) where
   unfolding viewTables pack packTasks packMutexes packSemaphores
   tables-pack = same-tables _ _
       (same-task-table _ _
-      (take-pad maxTasks 0 (taskCount (s .tables)) (s .tables .tasks .priorities) refl)
-      (take-pad maxTasks 0 (taskCount (s .tables)) (s .tables .tasks .outcomes) (F .outcome-column))
+      (take-pad taskPlaces 0 (taskCount (s .tables)) (s .tables .tasks .priorities) refl)
+      (take-pad taskPlaces 0 (taskCount (s .tables)) (s .tables .tasks .outcomes) (F .outcome-column))
       waits-view
       (items-taskListOf (s .tables .tasks .waiting)))
       (same-mutex-table _ _
@@ -116,7 +115,7 @@ module _ (s : Model) (I : Inv s) where
   ids-in : (i : ℕ) → occ i (s .ready) + (occ i (s .tables .tasks .waiting) + occ i (opt (s .running))) ≤ below i (taskCount (s .tables))
   ids-in i = omega (arith, I .places i)
 
-  runner-low : (i : ℕ) → s .running ≡ some i → i < maxTasks
+  runner-low : (i : ℕ) → s .running ≡ some i → i < taskPlaces
   runner-low i e = omega (arith, I .facts .few-tasks, in-below i (taskCount (s .tables)) (omega (arith, ids-in i, occ-opt (s .running) i e)))
 
   -- what the packing of a sound state stands for is the state
@@ -124,10 +123,10 @@ module _ (s : Model) (I : Inv s) where
   unfolding view pack
   view-pack = same-model _ _ (tables-pack s (I .facts) (I .clock-in)) (flag-back (s .started)) refl refl (task-back (s .running) runner-low) (items-taskListOf (s .ready))
 
-  ready-fits : length (s .ready) ≤ maxTasks
+  ready-fits : length (s .ready) ≤ taskPlaces
   ready-fits = omega (arith, I .facts .few-tasks, pigeonhole (taskCount (s .tables)) (s .ready) (λ y. omega (arith, ids-in y, below-le y (taskCount (s .tables)))) (λ y m. in-below y (taskCount (s .tables)) (omega (arith, ids-in y))))
 
-  waiting-fits : length (s .tables .tasks .waiting) ≤ maxTasks
+  waiting-fits : length (s .tables .tasks .waiting) ≤ taskPlaces
   waiting-fits = omega (arith, I .facts .few-tasks, pigeonhole (taskCount (s .tables)) (s .tables .tasks .waiting) (λ y. omega (arith, ids-in y, below-le y (taskCount (s .tables)))) (λ y m. in-below y (taskCount (s .tables)) (omega (arith, ids-in y))))
 
 -- the codes of a wait keep the record's rules
@@ -148,10 +147,10 @@ used-code clock (some w) = go (w .on) (w .left)
     go (semOf m) (some n) = true-and _ _ (or-r (eqb m 0) _ refl) (or-r (eqb (dueAt clock n) 0) _ refl)
     go time (some n) = or-r (eqb (dueAt clock n) 0) _ refl
 
-true-id : (o : Option ℕ) → ((i : ℕ) → o ≡ some i → i < maxTasks) → idb (idOf o) ≡ true
+true-id : (o : Option ℕ) → ((i : ℕ) → o ≡ some i → i < taskPlaces) → idb (idOf o) ≡ true
 unfolding idOf
-true-id none h = or-r (ltb noId maxTasks) _ refl
-true-id (some i) h = or-l _ _ (lt-ltb i maxTasks (h i refl))
+true-id none h = or-r (ltb noId taskPlaces) _ refl
+true-id (some i) h = or-l _ _ (lt-ltb i taskPlaces (h i refl))
 
 true-flag : (b : Bool) → leb (cond b 1 0) 1 ≡ true
 true-flag true = refl
@@ -183,14 +182,14 @@ module _ (t : Tables) (F : Facts t) (clock : ℕ) where
 
   tasks-tidy : tasksTidyb (packTasks t clock) ≡ true
   unfolding tasksTidyb taskPlaceb packTasks
-  tasks-tidy = true-and _ _ (le-leb _ _ (F .few-tasks)) (true-all maxTasks _ (λ i h. elim (decLt i (taskCount t)) [
+  tasks-tidy = true-and _ _ (le-leb _ _ (F .few-tasks)) (true-all taskPlaces _ (λ i h. elim (decLt i (taskCount t)) [
     | yes q ↦ rw (lt-ltb i (taskCount t) q) (used-tidy i)
     | no q ↦ rw (le-ltb i (taskCount t) (omega arith)) (unused-tidy i (omega arith))
   ]))
 
   owner-zero : (j : ℕ) → j < maxMutexes → getD ((packMutexes t) .owner) j 0 ≡ idOf (ownerOf t j)
   unfolding packMutexes
-  owner-zero j h = other-default (pad maxMutexes noId (map idOf (t .mutexes .owners))) j 0 noId (omega (arith, length-pad maxMutexes noId (map idOf (t .mutexes .owners)) (omega (arith, F .few-mutexes, length-map (t .mutexes .owners) idOf)))) ∙ owner-read t j
+  owner-zero j h = read-any (pad maxMutexes noId (map idOf (t .mutexes .owners))) j 0 noId (omega (arith, length-pad maxMutexes noId (map idOf (t .mutexes .owners)) (omega (arith, F .few-mutexes, length-map (t .mutexes .owners) idOf)))) ∙ owner-read t j
 
   mutexes-n : (packMutexes t) .n ≡ mutexCount t
   unfolding packMutexes

@@ -4,7 +4,7 @@ use Prim.Native.Nat.{ℕ}
 use lib.Dec.{ltb, leb, eqb}
 use lib.ListN.{getD}
 use Rattle.lists.specs.Test.{_and_, _or_, allb}
-use Rattle.rules.specs.Sizes.{maxTasks, maxMutexes, maxSemaphores, onMutex, onSemaphore, onTime}
+use Rattle.rules.specs.Sizes.{taskPlaces, maxMutexes, maxSemaphores, onMutex, onSemaphore, onTime}
 use Rattle.rules.specs.Levels.{levelIn}
 use Rattle.rules.specs.Sound.{soundb}
 use Rattle.task_lists.specs.TaskList.{places, noId}
@@ -32,11 +32,11 @@ unfoldable pub taskPlaceb : Tasks → ℕ → Bool
 taskPlaceb t i = cond (ltb i (t .n)) (usedTaskb t i) (unusedTaskb t i)
 
 unfoldable pub tasksTidyb : Tasks → Bool
-tasksTidyb t = leb (t .n) maxTasks and allb maxTasks (taskPlaceb t)
+tasksTidyb t = leb (t .n) taskPlaces and allb taskPlaces (taskPlaceb t)
 
 -- an id is that of a task that there can be, or none
 abbrev pub idb : ℕ → Bool
-idb x = ltb x maxTasks or eqb x noId
+idb x = ltb x taskPlaces or eqb x noId
 
 unfoldable pub mutexPlaceb : Mutexes → ℕ → Bool
 mutexPlaceb m j = cond (ltb j (m .n)) (idb (getD (m .owner) j 0)) (eqb (getD (m .kind) j 0) 0 and eqb (getD (m .owner) j 0) noId)

@@ -47,9 +47,12 @@ unfoldable pub runOf : Answer → ℕ
 runOf (Accepted k v r) = r
 runOf (Refused k v r) = r
 
--- "A step answered 0 or 1 is accepted; any other is refused"
+-- the one place where an answer is put together: "A step answered 0 or 1 is accepted; any other is refused"
+abbrev pub answerOf : ℕ → ℕ → ℕ → Answer
+answerOf k v r = cond (leb k 1) (Accepted k v r) (Refused k v r)
+
 unfoldable pub answerFor : ℕ → ℕ → Option ℕ → Answer
-answerFor k v r = cond (leb k 1) (Accepted k v (idOf r)) (Refused k v (idOf r))
+answerFor k v r = answerOf k v (idOf r)
 
 -- the rules' answer, as a record and an answer beside it
 unfoldable pub outFor : Ruled → Out
@@ -57,7 +60,7 @@ outFor a = record { state = pack (a .state); answer = answerFor (a .number) (a .
 
 -- a refusal that leaves the record as it is
 unfoldable pub stays : State → ℕ → ℕ → Option ℕ → Out
-stays k number value run = record { state = k; answer = Refused number value (idOf run) }
+stays k number value run = record { state = k; answer = answerFor number value run }
 
 -- 15 with no task to run where the record isn't sound; else what the rules answer
 unfoldable pub stepOf : State → Request → Out

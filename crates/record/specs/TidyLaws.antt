@@ -7,13 +7,13 @@ use native.Mathlib.Omega.{arith}
 use lib.ListN.{getD}
 use borrow.Author.Tests.{ltb-true, leb-true, eqb-true, not-true, lt-ltb, le-ltb, eq-eqb}
 use Rattle.lists.specs.TestLaws.{clash, and-l, and-r, or-true, all-true}
-use Rattle.rules.specs.Sizes.{maxTasks, maxMutexes, maxSemaphores, onTime}
+use Rattle.rules.specs.Sizes.{taskPlaces, maxMutexes, maxSemaphores, onTime}
 use Rattle.task_lists.specs.TaskList.{places, noId}
 use Rattle.record.specs.SoundRecord.{usedTaskb, unusedTaskb, taskPlaceb, tasksTidyb, idb, mutexPlaceb, mutexesTidyb, semPlaceb, semaphoresTidyb, taskListTidyb, tidyb}
 use Rattle.record.specs.declared.State.{State}  -- keep
 
 module _ (k : State) (tidy : tidyb k ≡ true) where
-  pub tasks-fit : k .tasks .n ≤ maxTasks
+  pub tasks-fit : k .tasks .n ≤ taskPlaces
   unfolding tidyb tasksTidyb
   tasks-fit = leb-true _ _ (and-l _ _ (and-l _ _ tidy))
 
@@ -37,13 +37,13 @@ module _ (k : State) (tidy : tidyb k ≡ true) where
   unfolding tidyb
   running-id = and-r _ _ (and-r _ _ (and-r _ _ (and-r _ _ (and-r _ _ (and-r _ _ tidy)))))
 
-  pub running-or : (k .running < maxTasks) ⊎ (k .running ≡ noId)
+  pub running-or : (k .running < taskPlaces) ⊎ (k .running ≡ noId)
   running-or = elim (or-true _ _ running-id) [ inl u ↦ inl (ltb-true _ _ u) | inr u ↦ inr (eqb-true _ _ u) ]
 
   -- one place of each table
-  pub task-place : (i : ℕ) → i < maxTasks → taskPlaceb (k .tasks) i ≡ true
+  pub task-place : (i : ℕ) → i < taskPlaces → taskPlaceb (k .tasks) i ≡ true
   unfolding tidyb tasksTidyb
-  task-place = all-true maxTasks (taskPlaceb (k .tasks)) (and-r _ _ (and-l _ _ tidy))
+  task-place = all-true taskPlaces (taskPlaceb (k .tasks)) (and-r _ _ (and-l _ _ tidy))
 
   pub mutex-place : (j : ℕ) → j < maxMutexes → mutexPlaceb (k .mutexes) j ≡ true
   unfolding tidyb mutexesTidyb
@@ -57,7 +57,7 @@ module _ (k : State) (tidy : tidyb k ≡ true) where
   unfolding taskPlaceb
   used-task i h = rw (lt-ltb i (k .tasks .n) h) at (task-place i (omega (arith, tasks-fit)))
 
-  pub unused-task : (i : ℕ) → k .tasks .n ≤ i → i < maxTasks → unusedTaskb (k .tasks) i ≡ true
+  pub unused-task : (i : ℕ) → k .tasks .n ≤ i → i < taskPlaces → unusedTaskb (k .tasks) i ≡ true
   unfolding taskPlaceb
   unused-task i h l = rw (le-ltb i (k .tasks .n) h) at (task-place i l)
 

@@ -13,14 +13,14 @@ use lib.Seq.{length-take-le, getD-take}
 use borrow.Author.Tests.{ltb-true, eqb-true, lt-ltb, le-ltb, ne-eqb}
 use Rattle.lists.specs.Table.{filled}
 use Rattle.lists.specs.TestLaws.{which, by-test, and-l, and-r, or-true, all-true}
-use Rattle.lists.specs.TableLaws.{length-filled, getD-filled}
+use Rattle.lists.specs.TableLaws.{length-filled, getD-filled, read-any}
 use Rattle.chains.specs.Least.{leastLeading}
-use Rattle.rules.specs.Sizes.{maxTasks, maxMutexes, inheriting, onMutex, onSemaphore, onTime}
+use Rattle.rules.specs.Sizes.{taskPlaces, maxMutexes, inheriting, onMutex, onSemaphore, onTime}
 use Rattle.rules.specs.Tables.{Awaited, mutexOf, semOf, time, awaitedBy, taskCount, mutexCount, semCount, priorityOf, outcomeOf, waitOf, kindOf, ownerOf, countOf, maximumOf}
 use Rattle.rules.specs.Levels.{ownerAwaited, heirAwaited, ofWait, next, lends, levelIn}
 use Rattle.task_lists.specs.TaskList.{noId, keyOf}
 use Rattle.walks.specs.Walk.{taskAt, nextIn, raised}
-use Rattle.walks.specs.WalkLaws.{other-default, next-in, next-out, next-agrees, leading-own, raised-ext}
+use Rattle.walks.specs.WalkLaws.{next-in, next-out, next-agrees, leading-own, raised-ext}
 use Rattle.record.specs.Record.{waitWith, waitIn, waitAt, viewTables}
 use Rattle.record.specs.SoundRecord.{unusedTaskb, mutexPlaceb, tidyb, levelsb}
 use Rattle.record.specs.Reads.{ownerAt, kindAt, ledBy, leadsAt, nextAt, heirAt, lendsAt, newLevels, countAt, maximumAt}
@@ -60,37 +60,37 @@ nothing false true = refl
 nothing false false = refl
 
 -- a table of ids and a map that agree on the first n tasks, and lead nowhere from the others
-map-same : (f : ℕ → ℕ) (g : ℕ → Option ℕ) (n : ℕ) → n ≤ maxTasks → ((i : ℕ) → i < n → taskAt (f i) ≡ g i)
-    → ((i : ℕ) → n ≤ i → f i ≡ noId) → ((i : ℕ) → n ≤ i → g i ≡ none) → (i : ℕ) → nextIn (filled maxTasks f) i ≡ g i
-map-same f g n fit same out none-out = next-agrees (filled maxTasks f) g n
+map-same : (f : ℕ → ℕ) (g : ℕ → Option ℕ) (n : ℕ) → n ≤ taskPlaces → ((i : ℕ) → i < n → taskAt (f i) ≡ g i)
+    → ((i : ℕ) → n ≤ i → f i ≡ noId) → ((i : ℕ) → n ≤ i → g i ≡ none) → (i : ℕ) → nextIn (filled taskPlaces f) i ≡ g i
+map-same f g n fit same out none-out = next-agrees (filled taskPlaces f) g n
     (λ i h. in-table i (omega arith) ∙ same i h)
-    (λ i h. elim (decLt i maxTasks) [
+    (λ i h. elim (decLt i taskPlaces) [
       | yes l ↦ in-table i l ∙ ap taskAt (out i h)
-      | no l ↦ next-out (filled maxTasks f) i (omega arith)
+      | no l ↦ next-out (filled taskPlaces f) i (omega arith)
     ])
     none-out
   where
-    in-table : (i : ℕ) → i < maxTasks → nextIn (filled maxTasks f) i ≡ taskAt (f i)
-    in-table i l = next-in (filled maxTasks f) i l ∙ ap taskAt (getD-filled maxTasks f 0 i l)
+    in-table : (i : ℕ) → i < taskPlaces → nextIn (filled taskPlaces f) i ≡ taskAt (f i)
+    in-table i l = next-in (filled taskPlaces f) i l ∙ ap taskAt (getD-filled taskPlaces f 0 i l)
 
 -- what the view's columns read
 module _ (k : State) (T : Typed k) (tidy : tidyb k ≡ true) where
   -- behind the last task nobody waits
   pub unused-wait : (i : ℕ) → k .tasks .n ≤ i → getD (k .tasks .wait) i 0 ≡ 0
   unfolding unusedTaskb
-  unused-wait i h = elim (decLt i maxTasks) [
+  unused-wait i h = elim (decLt i taskPlaces) [
     | yes l ↦ eqb-true _ _ (and-l _ _ (and-r _ _ (and-r _ _ (and-r _ _ (unused-task k tidy i h l)))))
     | no l ↦ List·getD-eq-default (k .tasks .wait) 0 (omega (arith, T .wait-length))
   ]
 
   -- an owner is an id, and there is none behind the last mutex
-  pub owner-id : (j : ℕ) → (ownerAt (k .mutexes) j < maxTasks) ⊎ (ownerAt (k .mutexes) j ≡ noId)
+  pub owner-id : (j : ℕ) → (ownerAt (k .mutexes) j < taskPlaces) ⊎ (ownerAt (k .mutexes) j ≡ noId)
   unfolding mutexPlaceb
   owner-id j = elim (decLt j maxMutexes) [
-    | yes l ↦ (let d : getD (k .mutexes .owner) j 0 ≡ ownerAt (k .mutexes) j = other-default (k .mutexes .owner) j 0 noId (omega (arith, T .owner-length)) in
+    | yes l ↦ (let d : getD (k .mutexes .owner) j 0 ≡ ownerAt (k .mutexes) j = read-any (k .mutexes .owner) j 0 noId (omega (arith, T .owner-length)) in
         elim (decLt j (k .mutexes .n)) [
           | yes h ↦ elim (or-true _ _ (rw (lt-ltb j (k .mutexes .n) h) at (mutex-place k tidy j l))) [
-            | inl u ↦ inl (omega (arith, ltb-true (getD (k .mutexes .owner) j 0) maxTasks u))
+            | inl u ↦ inl (omega (arith, ltb-true (getD (k .mutexes .owner) j 0) taskPlaces u))
             | inr u ↦ inr (omega (arith, eqb-true (getD (k .mutexes .owner) j 0) noId u))
           ]
           | no h ↦ inr (omega (arith, eqb-true (getD (k .mutexes .owner) j 0) noId (and-r _ _ (rw (le-ltb j (k .mutexes .n) (omega arith)) at (mutex-place k tidy j l)))))
@@ -101,7 +101,7 @@ module _ (k : State) (T : Typed k) (tidy : tidyb k ≡ true) where
   pub unused-owner : (j : ℕ) → k .mutexes .n ≤ j → ownerAt (k .mutexes) j ≡ noId
   unfolding mutexPlaceb
   unused-owner j h = elim (decLt j maxMutexes) [
-    | yes l ↦ sym (other-default (k .mutexes .owner) j 0 noId (omega (arith, T .owner-length)))
+    | yes l ↦ sym (read-any (k .mutexes .owner) j 0 noId (omega (arith, T .owner-length)))
         ∙ eqb-true _ _ (and-r _ _ (rw (le-ltb j (k .mutexes .n) h) at (mutex-place k tidy j l)))
     | no l ↦ List·getD-eq-default (k .mutexes .owner) noId (omega (arith, T .owner-length))
   ]
@@ -210,11 +210,11 @@ module _ (k : State) (T : Typed k) (tidy : tidyb k ≡ true) where
   leads-out l i h = rw (ne-eqb (getD (k .tasks .wait) i 0) onMutex (λ e. omega (arith, unused-wait i h))) refl
 
   -- the tables of ids and the rules' maps
-  pub next-same : (i : ℕ) → nextIn (filled maxTasks (nextAt (k .tasks) (k .mutexes))) i ≡ next (viewTables k) i
+  pub next-same : (i : ℕ) → nextIn (filled taskPlaces (nextAt (k .tasks) (k .mutexes))) i ≡ next (viewTables k) i
   unfolding next ofWait
   next-same = map-same (nextAt (k .tasks) (k .mutexes)) (next (viewTables k)) (k .tasks .n) (tasks-fit k tidy) next-at (leads-out (k .mutexes .owner)) (λ i h. rw (view-wait-out i h) refl)
 
-  pub lends-same : (i : ℕ) → nextIn (filled maxTasks (lendsAt (k .tasks) (k .mutexes))) i ≡ lends (viewTables k) i
+  pub lends-same : (i : ℕ) → nextIn (filled taskPlaces (lendsAt (k .tasks) (k .mutexes))) i ≡ lends (viewTables k) i
   unfolding lends ofWait
   lends-same = map-same (lendsAt (k .tasks) (k .mutexes)) (lends (viewTables k)) (k .tasks .n) (tasks-fit k tidy) lends-at (leads-out (filled maxMutexes (heirAt (k .mutexes)))) (λ i h. rw (view-wait-out i h) refl)
 
@@ -222,10 +222,10 @@ module _ (k : State) (T : Typed k) (tidy : tidyb k ≡ true) where
   pub new-level : (i : ℕ) → i < k .tasks .n → getD (newLevels (k .tasks) (k .mutexes)) i 0 ≡ levelIn (viewTables k) i
   unfolding newLevels levelIn
   new-level i h =
-      ap (λ (m : ℕ). getD (raised (k .tasks .priority) (filled maxTasks (lendsAt (k .tasks) (k .mutexes))) (k .tasks .n) m) i 0) all
-      ∙ raised-ext (k .tasks .priority) (filled maxTasks (lendsAt (k .tasks) (k .mutexes))) (k .tasks .n) (tasks-fit k tidy) (lends (viewTables k)) lends-same i
+      ap (λ (m : ℕ). getD (raised (k .tasks .priority) (filled taskPlaces (lendsAt (k .tasks) (k .mutexes))) (k .tasks .n) m) i 0) all
+      ∙ raised-ext (k .tasks .priority) (filled taskPlaces (lendsAt (k .tasks) (k .mutexes))) (k .tasks .n) (tasks-fit k tidy) (lends (viewTables k)) lends-same i
       ∙ leading-own (k .tasks .n) (lends (viewTables k)) (keyOf (k .tasks .priority)) (priorityOf (viewTables k)) (λ j q. sym (view-priority j q)) i h
       ∙ ap (λ (m : ℕ). leastLeading m (lends (viewTables k)) (priorityOf (viewTables k)) i) (sym view-tasks)
     where
-      all : min (k .tasks .n) maxTasks ≡ k .tasks .n
+      all : min (k .tasks .n) taskPlaces ≡ k .tasks .n
       all = omega (arith, tasks-fit k tidy)

@@ -2,7 +2,7 @@
 ghost use mathlib.Core.Path.{_≡_};
 ghost use Prim.Native.Nat.{_<_};
 ghost use Rattle.lists.specs.Table.{filled};
-ghost use Rattle.rules.specs.Sizes.{maxTasks, maxMutexes};
+ghost use Rattle.rules.specs.Sizes.{taskPlaces, maxMutexes};
 ghost use Rattle.record.specs.Reads.{ledBy, leadsAt, nextAt, heirAt, newLevels};
 use crate::INHERITING;
 use crate::MUTEXES;
@@ -27,7 +27,7 @@ fn led_by(mutexes: [u8; MUTEXES], kind: u8, object: u8) -> u8
 
 // Whom each task leads to.
 fn leads_of(t: Tasks, mutexes: [u8; MUTEXES]) -> [u8; TASKS]
-    ensures { λ r. ⌜ r ≡ filled maxTasks (leadsAt t mutexes) ⌝ }
+    ensures { λ r. ⌜ r ≡ filled taskPlaces (leadsAt t mutexes) ⌝ }
 {
     let mut a = [NONE; TASKS];
     for i in 0..TASKS {
@@ -38,7 +38,7 @@ fn leads_of(t: Tasks, mutexes: [u8; MUTEXES]) -> [u8; TASKS]
 
 // The owner of what each task waits for, mutexes of every kind.
 pub fn next_of(t: Tasks, m: Mutexes) -> [u8; TASKS]
-    ensures { λ r. ⌜ r ≡ filled maxTasks (nextAt t m) ⌝ }
+    ensures { λ r. ⌜ r ≡ filled taskPlaces (nextAt t m) ⌝ }
 {
     let owners = m.owner;
     leads_of(t, owners)

@@ -1,19 +1,23 @@
 // The state record, requests and answers.
+pub mod answers;
 mod first;
 pub mod leads;
 pub mod reads;
 
 pub use first::fresh;
 
-// How many of each there can be. A list has a place for each task.
+// How many places each table has. A list has a place for each task.
 pub const TASKS: usize = task_lists::PLACES;
 
 pub const MUTEXES: usize = 8;
 
 pub const SEMAPHORES: usize = 8;
 
-// The same, as the record counts them.
-pub const MAX_TASKS: u8 = TASKS as u8;
+// How many tasks a state may have: no more than there are places for them.
+pub const MAX_TASKS: u8 = 16;
+
+// How many places each table has, as the record counts them.
+pub const TASK_PLACES: u8 = TASKS as u8;
 
 pub const MAX_MUTEXES: u8 = MUTEXES as u8;
 

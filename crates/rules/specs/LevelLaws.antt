@@ -31,13 +31,13 @@ unfolding next ofWait
 next-none t i e = rw e refl
 
 -- whom a wait leads to, what it is for leads to
-of-wait : (f : Awaited → Option ℕ) (w : Option Wait) (j : ℕ) → ofWait f w ≡ some j → (a : Awaited) × (f a ≡ some j)
+pub of-wait : (f : Awaited → Option ℕ) (w : Option Wait) (j : ℕ) → ofWait f w ≡ some j → (a : Awaited) × (f a ≡ some j)
 unfolding ofWait
 of-wait f none j e = none-some refl e
 of-wait f (some w) j e = (w .on, e)
 
 -- the owner of what is awaited owns a mutex
-owner-awaited : (t : Tables) (a : Awaited) (j : ℕ) → ownerAwaited t a ≡ some j → (m : ℕ) × (ownerOf t m ≡ some j)
+pub owner-awaited : (t : Tables) (a : Awaited) (j : ℕ) → ownerAwaited t a ≡ some j → (m : ℕ) × (ownerOf t m ≡ some j)
 unfolding ownerAwaited
 owner-awaited t (mutexOf m) j e = (m, e)
 owner-awaited t (semOf k) j e = none-some refl e

@@ -25,3 +25,4 @@ pub mod RefusalLaws
 pub mod AgreeLaws
 pub mod DemandLaws
 pub mod OutcomeLaws
+pub mod LinkLaws

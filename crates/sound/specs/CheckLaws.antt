@@ -16,7 +16,7 @@ use Rattle.lists.specs.Order.{ascb, tiesb, inside}
 use Rattle.lists.specs.TestLaws.{and-l, and-r, true-and, or-true, same-test, and-same, all-same}
 use Rattle.lists.specs.CountLaws.{occ-head}
 use Rattle.lists.specs.OrderLaws.{inside-true}
-use Rattle.rules.specs.Sizes.{maxTasks, maxMutexes, maxSemaphores, maxHold, granted}
+use Rattle.rules.specs.Sizes.{taskPlaces, maxMutexes, maxSemaphores, maxHold, granted}
 use Rattle.rules.specs.Tables.{taskCount, mutexCount, semCount, outcomeOf, ownerOf}
 use Rattle.rules.specs.Levels.{levelIn}
 use Rattle.rules.specs.Sound.{columnsb, sizesb, rangesb, clockb, ascendingb, noneIn, runsb, holdb, urgentTop, urgentb, setUpb, tablesb, soundb}
@@ -75,7 +75,7 @@ unfolding _and_ _or_
 busy-same true u v w e = e
 busy-same false u v w e = refl
 
-started-same-key : (f g : ℕ → ℕ) (n r h : ℕ) (ids : List ℕ) → n ≤ length ids → (r < maxTasks) ⊎ (r ≡ noId) → (r < maxTasks → f r ≡ g r)
+started-same-key : (f g : ℕ → ℕ) (n r h : ℕ) (ids : List ℕ) → n ≤ length ids → (r < taskPlaces) ⊎ (r ≡ noId) → (r < taskPlaces → f r ≡ g r)
     → ((y : ℕ) → 1 ≤ occ y (take n ids) → f y ≡ g y)
     → cond (eqb r noId) (eqb n 0 and eqb h 0) (cond (eqb h 0) (cond (eqb n 0) true (leb (f r) (f (getD ids 0 0)))) true)
     ≡ (someb (taskAt r) or noneIn (take n ids)) and (eqb h 0 or someb (taskAt r)) and (not (eqb h 0) or urgentTop g (taskAt r) (take n ids))
@@ -89,7 +89,7 @@ phases : (b x y : Bool) → cond b x y ≡ cond (not b) y x
 phases true x y = refl
 phases false x y = refl
 
-no-id : (x : ℕ) → (x < maxTasks) ⊎ (x ≡ noId) → eqb x noId ≡ not (someb (taskAt x))
+no-id : (x : ℕ) → (x < taskPlaces) ⊎ (x ≡ noId) → eqb x noId ≡ not (someb (taskAt x))
 unfolding someb
 no-id x c = elim c [
   | inl h ↦ rw (task-in x h, ne-eqb x noId (λ e. omega arith)) refl
@@ -108,7 +108,7 @@ module _ (k : State) (T : Typed k) (tidy : tidyb k ≡ true) where
   sizes-true : sizesb (viewTables k) ≡ true
   unfolding sizesb
   sizes-true =
-      true-and _ _ (le-leb (taskCount (viewTables k)) maxTasks (omega (arith, view-tasks k T tidy, tasks-fit k tidy)))
+      true-and _ _ (le-leb (taskCount (viewTables k)) taskPlaces (omega (arith, view-tasks k T tidy, tasks-fit k tidy)))
       (true-and _ _ (le-leb (mutexCount (viewTables k)) maxMutexes (omega (arith, view-mutexes k T tidy, mutexes-fit k tidy)))
       (le-leb (semCount (viewTables k)) maxSemaphores (omega (arith, view-semaphores k T tidy, semaphores-fit k tidy))))
 
@@ -121,7 +121,7 @@ module _ (k : State) (T : Typed k) (tidy : tidyb k ≡ true) where
     level-ready : (y : ℕ) → 1 ≤ occ y (items (k .ready)) → keyOf (k .tasks .level) y ≡ levelIn (viewTables k) y
     level-ready y m = stored-level k stored y (inside-member (k .tasks .n) (items (k .ready)) listed y m)
 
-    level-running : k .running < maxTasks → keyOf (k .tasks .level) (k .running) ≡ levelIn (viewTables k) (k .running)
+    level-running : k .running < taskPlaces → keyOf (k .tasks .level) (k .running) ≡ levelIn (viewTables k) (k .running)
     level-running h = elim (or-true _ _ runner) [
       | inl e ↦ absurd (omega (arith, eqb-true (k .running) noId e))
       | inr e ↦ stored-level k stored (k .running) (ltb-true _ _ e)

@@ -8,7 +8,7 @@ use Rattle.lists.specs.Test.{_and_, _or_, allb}
 use Rattle.lists.specs.Order.{ascb, tiesb, inside}
 use Rattle.lists.specs.Table.{filled}
 use Rattle.chains.specs.Chain.{endsb}
-use Rattle.rules.specs.Sizes.{maxTasks, levels, kinds, maxTicks, granted, pending, timedOut, flushed, onMutex, onSemaphore, onTime}
+use Rattle.rules.specs.Sizes.{taskPlaces, levels, kinds, maxTicks, granted, pending, timedOut, flushed, onMutex, onSemaphore, onTime}
 use Rattle.rules.specs.Levels.{next}
 use Rattle.task_lists.specs.TaskList.{noId, items, keyOf, counted}
 use Rattle.walks.specs.Walk.{nextIn}
@@ -68,7 +68,7 @@ placeAt k waits all i =
 
 unfoldable pub placesIn : State → Bool
 placesIn k =
-    let waits = counted (replicate maxTasks 0) (items (k .waiting)) in
+    let waits = counted (replicate taskPlaces 0) (items (k .waiting)) in
     let all = counted waits (items (k .ready)) in
     inside (k .tasks .n) (items (k .waiting)) and inside (k .tasks .n) (items (k .ready))
     and (eqb (k .running) noId or ltb (k .running) (k .tasks .n))
@@ -77,11 +77,11 @@ placesIn k =
 -- no ring, stored levels
 unfoldable pub ringless : State → Bool
 ringless k =
-    let next = filled maxTasks (nextAt (k .tasks) (k .mutexes)) in
-    allb (min (k .tasks .n) maxTasks) (λ i. endsb (k .tasks .n) (nextIn next) (nextIn next i))
+    let next = filled taskPlaces (nextAt (k .tasks) (k .mutexes)) in
+    allb (min (k .tasks .n) taskPlaces) (λ i. endsb (k .tasks .n) (nextIn next) (nextIn next i))
 
 unfoldable pub levelsIn : State → Bool
-levelsIn k = allb (min (k .tasks .n) maxTasks) (λ i. eqb (getD (k .tasks .level) i 0) (getD (newLevels (k .tasks) (k .mutexes)) i 0))
+levelsIn k = allb (min (k .tasks .n) taskPlaces) (λ i. eqb (getD (k .tasks .level) i 0) (getD (newLevels (k .tasks) (k .mutexes)) i 0))
 
 -- after start
 unfoldable pub topIn : State → Bool

@@ -16,7 +16,7 @@ use Rattle.lists.specs.Order.{inside}
 use Rattle.lists.specs.Table.{filled}
 use Rattle.lists.specs.TestLaws.{which, and-l, true-and, same-test, and-same, all-same, all-and}
 use Rattle.lists.specs.CountLaws.{eqn-at, eqn-other}
-use Rattle.rules.specs.Sizes.{maxTasks, levels, kinds, maxTicks, granted, pending, timedOut, flushed, onMutex, onSemaphore, onTime}
+use Rattle.rules.specs.Sizes.{taskPlaces, levels, kinds, maxTicks, granted, pending, timedOut, flushed, onMutex, onSemaphore, onTime}
 use Rattle.rules.specs.Tables.{awaitedKind, awaitedBy, Tables, taskCount, mutexCount, semCount, priorityOf, outcomeOf, waitOf, kindOf, ownerOf, countOf}
 use Rattle.rules.specs.Levels.{next}
 use Rattle.rules.specs.Sound.{waitCount, waitingb, placesb, unavailableb, leftb, blockedb, timedb, waitersb, timesb, existsb, ownersb, noRingb, countsb, outcomeb, outcomesb}
@@ -35,14 +35,14 @@ use Rattle.record.specs.declared.State.{State}  -- keep
 use Rattle.sound.specs.Checks.{mutexInRange}  -- keep
 
 -- an id, and the task that it stands for
-exists-id : (x n : ℕ) → (x < maxTasks) ⊎ (x ≡ noId) → eqb x noId or ltb x n ≡ existsb n (taskAt x)
+exists-id : (x n : ℕ) → (x < taskPlaces) ⊎ (x ≡ noId) → eqb x noId or ltb x n ≡ existsb n (taskAt x)
 unfolding _or_ existsb
 exists-id x n c = elim c [
   | inl h ↦ rw (task-in x h, ne-eqb x noId (λ e. omega arith)) refl
   | inr e ↦ rw e refl
 ]
 
-some-id : (x : ℕ) → (x < maxTasks) ⊎ (x ≡ noId) → not (eqb x noId) ≡ someb (taskAt x)
+some-id : (x : ℕ) → (x < taskPlaces) ⊎ (x ≡ noId) → not (eqb x noId) ≡ someb (taskAt x)
 unfolding someb
 some-id x c = elim c [
   | inl h ↦ rw (task-in x h, ne-eqb x noId (λ e. omega arith)) refl
@@ -89,14 +89,14 @@ count-wait (suc (suc (suc zero))) object left h = refl
 count-wait (suc (suc (suc (suc kind)))) object left h = absurd (omega arith)
 
 -- who runs, as an id and as a task
-inside-id : (r n : ℕ) → (r < maxTasks) ⊎ (r ≡ noId) → eqb r noId or ltb r n ≡ inside n (opt (taskAt r))
+inside-id : (r n : ℕ) → (r < taskPlaces) ⊎ (r ≡ noId) → eqb r noId or ltb r n ≡ inside n (opt (taskAt r))
 unfolding _or_ inside
 inside-id r n c = elim c [
   | inl h ↦ rw (task-in r h, ne-eqb r noId (λ e. omega arith)) (same-test _ _ (λ u. true-and _ _ u refl) (λ u. and-l _ _ u))
   | inr e ↦ rw e refl
 ]
 
-occ-id : (r i : ℕ) → i < maxTasks → (r < maxTasks) ⊎ (r ≡ noId) → eqn r i ≡ occ i (opt (taskAt r))
+occ-id : (r i : ℕ) → i < taskPlaces → (r < taskPlaces) ⊎ (r ≡ noId) → eqn r i ≡ occ i (opt (taskAt r))
 unfolding occ
 occ-id r i l c = elim c [
   | inl h ↦ rw (task-in r h) (omega arith)
@@ -116,7 +116,7 @@ leftOf k i = leftIn (getD (k .tasks .timed) i 0) (getD (k .tasks .due) i 0) (k .
 
 -- how often each task stands in the order of waits, and in the two lists
 abbrev waitsOf : State → List ℕ
-waitsOf k = counted (replicate maxTasks 0) (items (k .waiting))
+waitsOf k = counted (replicate taskPlaces 0) (items (k .waiting))
 
 abbrev allOf : State → List ℕ
 allOf k = counted (waitsOf k) (items (k .ready))
@@ -184,19 +184,19 @@ module _ (k : State) (T : Typed k) (tidy : tidyb k ≡ true) where
   pub ring-same : ringless k ≡ noRingb (viewTables k)
   unfolding ringless noRingb
   ring-same = all-same _ _ _ _ (omega (arith, tasks-fit k tidy, view-tasks k T tidy)) (λ i h.
-      rw (view-tasks k T tidy, next-same k T tidy i) (ends-ext (nextIn (filled maxTasks (nextAt (k .tasks) (k .mutexes)))) (next (viewTables k)) (next-same k T tidy) (k .tasks .n) (next (viewTables k) i)))
+      rw (view-tasks k T tidy, next-same k T tidy i) (ends-ext (nextIn (filled taskPlaces (nextAt (k .tasks) (k .mutexes)))) (next (viewTables k)) (next-same k T tidy) (k .tasks .n) (next (viewTables k) i)))
 
   pub levels-same : levelsIn k ≡ levelsb k
   unfolding levelsIn levelsb
   levels-same = all-same _ _ _ _ (omega (arith, tasks-fit k tidy)) (λ i h. ap (eqb (getD (k .tasks .level) i 0)) (new-level k T tidy i (omega arith)))
 
   -- how often each task stands in the two lists
-  waits-at : (i : ℕ) → i < maxTasks → keyOf (waitsOf k) i ≡ occ i (items (k .waiting))
+  waits-at : (i : ℕ) → i < taskPlaces → keyOf (waitsOf k) i ≡ occ i (items (k .waiting))
   waits-at i l =
-      let z : keyOf (replicate maxTasks 0) i ≡ 0 = getD-replicate maxTasks i 0 0 l in
-      omega (arith, getD-counted (replicate maxTasks 0) (items (k .waiting)) i l (omega arith), occ-length i (items (k .waiting)), length-take (k .waiting .n) (k .waiting .ids), waiting-fits k tidy)
+      let z : keyOf (replicate taskPlaces 0) i ≡ 0 = getD-replicate taskPlaces i 0 0 l in
+      omega (arith, getD-counted (replicate taskPlaces 0) (items (k .waiting)) i l (omega arith), occ-length i (items (k .waiting)), length-take (k .waiting .n) (k .waiting .ids), waiting-fits k tidy)
 
-  all-at : (i : ℕ) → i < maxTasks
+  all-at : (i : ℕ) → i < taskPlaces
       → keyOf (allOf k) i ≡ occ i (items (k .waiting)) + occ i (items (k .ready))
   all-at i l =
       let w = waits-at i l in
@@ -204,7 +204,7 @@ module _ (k : State) (T : Typed k) (tidy : tidyb k ≡ true) where
       let short = length-take (k .waiting .n) (k .waiting .ids) in
       omega (
         arith,
-        getD-counted (waitsOf k) (items (k .ready)) i (omega (arith, length-counted (replicate maxTasks 0) (items (k .waiting)))) (omega (arith, waiting-fits k tidy)),
+        getD-counted (waitsOf k) (items (k .ready)) i (omega (arith, length-counted (replicate taskPlaces 0) (items (k .waiting)))) (omega (arith, waiting-fits k tidy)),
         occ-length i (items (k .ready)),
         length-take (k .ready .n) (k .ready .ids),
         ready-fits k tidy,
@@ -217,7 +217,7 @@ module _ (k : State) (T : Typed k) (tidy : tidyb k ≡ true) where
       ≡ eqb (occ i (items (k .waiting))) (waitCount (waitOf (viewTables k) i)) and eqb (occ i (items (k .ready)) + (occ i (items (k .waiting)) + occ i (opt (taskAt (k .running))))) 1
   unfolding placeAt waitAt eqn
   place-same i h =
-      let l : i < maxTasks = omega (arith, tasks-fit k tidy) in
+      let l : i < taskPlaces = omega (arith, tasks-fit k tidy) in
       rw (
         view-wait k T tidy i h,
         waits-at i l,

@@ -1,11 +1,10 @@
 // Is a record tidy: numbers of things in range, unused places and absent fields as in the fresh record?
 ghost use mathlib.Core.Path.{_≡_};
 ghost use Prim.Native.Nat.{_<_};
-ghost use Rattle.rules.specs.Sizes.{maxTasks, maxMutexes, maxSemaphores};
+ghost use Rattle.rules.specs.Sizes.{taskPlaces, maxMutexes, maxSemaphores};
 ghost use Rattle.record.specs.SoundRecord.{usedTaskb, unusedTaskb, taskPlaceb, tasksTidyb, idb, mutexPlaceb, mutexesTidyb, semPlaceb, semaphoresTidyb, taskListTidyb, tidyb};
 use record::MAX_MUTEXES;
 use record::MAX_SEMAPHORES;
-use record::MAX_TASKS;
 use record::MUTEXES;
 use record::Mutexes;
 use record::NO_WAIT;
@@ -16,13 +15,14 @@ use record::ON_TIME;
 use record::SEMAPHORES;
 use record::Semaphores;
 use record::State;
+use record::TASK_PLACES;
 use record::TASKS;
 use record::Tasks;
 use task_lists::TaskList;
 
 // The places of a task that is there: an object only for a wait on one, a due time only for a timed wait.
 fn used_task(t: Tasks, i: usize) -> bool
-    requires { ⌜ i < maxTasks ⌝ }
+    requires { ⌜ i < taskPlaces ⌝ }
     ensures { λ r. ⌜ r ≡ usedTaskb t i ⌝ }
 {
     let kind = t.wait[i];
@@ -51,7 +51,7 @@ fn used_task(t: Tasks, i: usize) -> bool
 
 // Unused places are as in the fresh state.
 fn unused_task(t: Tasks, i: usize) -> bool
-    requires { ⌜ i < maxTasks ⌝ }
+    requires { ⌜ i < taskPlaces ⌝ }
     ensures { λ r. ⌜ r ≡ unusedTaskb t i ⌝ }
 {
     if t.priority[i] != 0 {
@@ -76,7 +76,7 @@ fn unused_task(t: Tasks, i: usize) -> bool
 }
 
 fn task_place(t: Tasks, i: usize) -> bool
-    requires { ⌜ i < maxTasks ⌝ }
+    requires { ⌜ i < taskPlaces ⌝ }
     ensures { λ r. ⌜ r ≡ taskPlaceb t i ⌝ }
 {
     if i < t.n as usize {
@@ -88,7 +88,7 @@ fn task_place(t: Tasks, i: usize) -> bool
 fn tasks_tidy(t: Tasks) -> bool
     ensures { λ r. ⌜ r ≡ tasksTidyb t ⌝ }
 {
-    if MAX_TASKS < t.n {
+    if TASK_PLACES < t.n {
         return false;
     }
     for i in 0..TASKS {
@@ -103,7 +103,7 @@ fn tasks_tidy(t: Tasks) -> bool
 fn is_id(x: u8) -> bool
     ensures { λ r. ⌜ r ≡ idb x ⌝ }
 {
-    if x < MAX_TASKS {
+    if x < TASK_PLACES {
         return true;
     }
     x == NONE
@@ -166,7 +166,7 @@ fn semaphores_tidy(c: Semaphores) -> bool
 fn task_list_tidy(q: TaskList) -> bool
     ensures { λ r. ⌜ r ≡ taskListTidyb q ⌝ }
 {
-    if MAX_TASKS < q.n {
+    if TASK_PLACES < q.n {
         return false;
     }
     task_list_checks::rest_empty(q)

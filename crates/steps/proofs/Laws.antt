@@ -10,7 +10,7 @@ use lib.Dec.{eqb}
 use lib.ListN.{getD}
 use Rattle.lists.specs.Test.{allb}
 use Rattle.lists.specs.TestLaws.{which, clash, true-and, all-true}
-use Rattle.rules.specs.Sizes.{maxTasks}
+use Rattle.rules.specs.Sizes.{taskPlaces}
 use Rattle.steps.specs.Machine.{endedIf, endedWhere, anyFlag}
 use Rattle.record.specs.declared.Tasks.{Tasks}
 
@@ -37,13 +37,13 @@ module _ (f : List ℕ) where
   unfolding allb
   flag-more i e h = rw add-one (sym (true-and _ _ (ap not (ne-eqb (getD f i 0) 1 h)) (sym e)))
 
-  pub flag-done : (i : ℕ) → i ≡ maxTasks → true ≡ noFlag f i → false ≡ anyFlag f
+  pub flag-done : (i : ℕ) → i ≡ taskPlaces → true ≡ noFlag f i → false ≡ anyFlag f
   unfolding anyFlag
   flag-done i n e = rw n at (ap not e)
 
-  pub flag-here : (i : ℕ) → i < maxTasks → getD f i 0 ≡ 1 → true ≡ anyFlag f
+  pub flag-here : (i : ℕ) → i < taskPlaces → getD f i 0 ≡ 1 → true ≡ anyFlag f
   unfolding anyFlag
-  flag-here i h e = elim (which (noFlag f maxTasks)) [
-    | inl t ↦ absurd (clash (all-true maxTasks _ t i h) (ap not (eq-eqb (getD f i 0) 1 e)))
+  flag-here i h e = elim (which (noFlag f taskPlaces)) [
+    | inl t ↦ absurd (clash (all-true taskPlaces _ t i h) (ap not (eq-eqb (getD f i 0) 1 e)))
     | inr t ↦ ap not (sym t)
   ]

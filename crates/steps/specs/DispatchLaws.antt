@@ -20,7 +20,7 @@ use Rattle.lists.specs.CountLaws.{eqn-at, eqn-other, in-below, below-le, pigeon
 use Rattle.lists.specs.OrderLaws.{keep-all}
 use Rattle.chains.specs.Chain.{on}
 use Rattle.lists.specs.TableLaws.{getD-fill}
-use Rattle.rules.specs.Sizes.{maxTasks}
+use Rattle.rules.specs.Sizes.{taskPlaces}
 use Rattle.rules.specs.Tables.{taskCount}
 use Rattle.rules.specs.Settle.{meet, dispatch}
 use Rattle.rules.specs.Invariant.{Facts, Places}
@@ -34,15 +34,15 @@ use Rattle.record.specs.declared.State.{State}  -- keep
 use Rattle.rules.specs.State.{State as Model, levelOf, placed}  -- keep
 
 -- the flags that name one task
-pub single-at : (x y : ℕ) → x < maxTasks → keyOf (single x) y ≡ eqn x y
+pub single-at : (x y : ℕ) → x < taskPlaces → keyOf (single x) y ≡ eqn x y
 unfolding single
-single-at x y h = rw (lt-ltb x maxTasks h) (elim (ℕ-discrete x y) [
-  | yes e ↦ rw (← e) (getD-set-same (replicate maxTasks 0) x 1 0 h ∙ sym (eqn-at x x refl))
-  | no e ↦ getD-set-other (replicate maxTasks 0) x y 1 0 (λ q. e (sym q)) ∙ getD-fill 0 maxTasks y ∙ sym (eqn-other x y e)
+single-at x y h = rw (lt-ltb x taskPlaces h) (elim (ℕ-discrete x y) [
+  | yes e ↦ rw (← e) (getD-set-same (replicate taskPlaces 0) x 1 0 h ∙ sym (eqn-at x x refl))
+  | no e ↦ getD-set-other (replicate taskPlaces 0) x y 1 0 (λ q. e (sym q)) ∙ getD-fill 0 taskPlaces y ∙ sym (eqn-other x y e)
 ])
 
 -- the first leaves
-pub first-leaves : (x : ℕ) (l : List ℕ) → x < maxTasks → occ x l ≡ 0 → without (taskListOf (x ∷ l)) x ≡ taskListOf l
+pub first-leaves : (x : ℕ) (l : List ℕ) → x < taskPlaces → occ x l ≡ 0 → without (taskListOf (x ∷ l)) x ≡ taskListOf l
 unfolding keep
 first-leaves x l h e = kept-taskListOf (single x) 0 (x ∷ l) ∙ ap taskListOf (rw (off x (eqn-at x x refl)) (keep-all (λ y. eqb (keyOf (single x) y) 0) l on))
   where
@@ -96,7 +96,7 @@ module _ (s : Model) (F : Facts (s .tables)) (on : s .started ≡ true) where
   at-most : (r : Option ℕ) (l : List ℕ) → Places (placed s r l) [] → (i : ℕ) → occ i l + occ i (opt r) ≤ below i (taskCount (s .tables))
   at-most r l P i = omega (arith, P i)
 
-  first-in : (r : Option ℕ) (x : ℕ) (l : List ℕ) → Places (placed s r (x ∷ l)) [] → (x < maxTasks) × (occ x l ≡ 0)
+  first-in : (r : Option ℕ) (x : ℕ) (l : List ℕ) → Places (placed s r (x ∷ l)) [] → (x < taskPlaces) × (occ x l ≡ 0)
   unfolding occ
   first-in r x l P = let b = at-most r (x ∷ l) P x in
       (omega (arith, F .few-tasks, in-below x (taskCount (s .tables)) (omega (arith, eqn-at x x refl))), omega (arith, eqn-at x x refl, below-le x (taskCount (s .tables))))
@@ -109,7 +109,7 @@ module _ (s : Model) (F : Facts (s .tables)) (on : s .started ≡ true) where
         (λ y m. in-below y (taskCount (s .tables)) (omega (arith, at-most r (x ∷ l) P y))),
   )
 
-  runner-in : (r : ℕ) (l : List ℕ) → Places (placed s (some r) l) [] → r < maxTasks
+  runner-in : (r : ℕ) (l : List ℕ) → Places (placed s (some r) l) [] → r < taskPlaces
   unfolding occ
   runner-in r l P = omega (arith, F .few-tasks, in-below r (taskCount (s .tables)) (omega (arith, at-most (some r) l P r, eqn-at r r refl)))
 

@@ -18,7 +18,7 @@ use Rattle.lists.specs.TestLaws.{which, by-test}
 use Rattle.lists.specs.CountLaws.{in-below, below-le, pigeonhole}
 use Rattle.lists.specs.OrderLaws.{occ-kept, occ-dropped}
 use Rattle.lists.specs.TableLaws.{length-edit, getD-edit, length-pad, pad-set, getD-pad}
-use Rattle.rules.specs.Sizes.{maxTasks, forever, pending, onTime}
+use Rattle.rules.specs.Sizes.{taskPlaces, forever, pending, onTime}
 use Rattle.rules.specs.Step.{level, outcome}
 use Rattle.rules.specs.Effect.{beginWait, endWaits, ended, ticksOf, waitFor, due}
 use Rattle.rules.specs.Sound.{waitCount}
@@ -64,22 +64,22 @@ module _ (t : Tables) (F : Facts t) (p : ℕ → Bool) (named : (i : ℕ) → p 
     -- a column of codes
     module _ (out : ℕ → ℕ) where
       ended-code : (f : Option Wait → ℕ) → f none ≡ 0
-          → setWhere (λ i. eqb (keyOf flags i) 1) (λ i. 0) (pad maxTasks 0 (map f (t .tasks .waits))) maxTasks ≡ pad maxTasks 0 (map f ((endWaits t p out) .tasks .waits))
-      ended-code f e = set-column (λ i. eqb (keyOf flags i) 1) (λ i. 0) (pad maxTasks 0 (map f (t .tasks .waits))) (map f ((endWaits t p out) .tasks .waits))
-          (length-pad maxTasks 0 (map f (t .tasks .waits)) (omega (arith, length-map (t .tasks .waits) f, F .wait-column, F .few-tasks)))
+          → setWhere (λ i. eqb (keyOf flags i) 1) (λ i. 0) (pad taskPlaces 0 (map f (t .tasks .waits))) taskPlaces ≡ pad taskPlaces 0 (map f ((endWaits t p out) .tasks .waits))
+      ended-code f e = set-column (λ i. eqb (keyOf flags i) 1) (λ i. 0) (pad taskPlaces 0 (map f (t .tasks .waits))) (map f ((endWaits t p out) .tasks .waits))
+          (length-pad taskPlaces 0 (map f (t .tasks .waits)) (omega (arith, length-map (t .tasks .waits) f, F .wait-column, F .few-tasks)))
           (omega (arith, length-map ((endWaits t p out) .tasks .waits) f, length-edit (λ i x. cond (p i) none x) (t .tasks .waits), F .wait-column, F .few-tasks))
-          (λ i. ap (λ b. cond b 0 (getD (pad maxTasks 0 (map f (t .tasks .waits))) i 0)) (flag-one flags p fl i)
+          (λ i. ap (λ b. cond b 0 (getD (pad taskPlaces 0 (map f (t .tasks .waits))) i 0)) (flag-one flags p fl i)
           ∙ ap (cond (p i) 0) (wait-code t f i e)
           ∙ by-test (λ (z : ℕ). z ≡ f (cond (p i) none (waitOf t i))) (p i) (λ q. rw q (sym e)) (λ q. rw q refl)
           ∙ ap f (sym (wait-ended t p out i)) ∙ sym (List·getD-map f ((endWaits t p out) .tasks .waits) i none) ∙ ap (getD (map f ((endWaits t p out) .tasks .waits)) i) e)
 
       module _ (v : ℕ → ℕ) (same : (i : ℕ) → p i ≡ true → v i ≡ out i) where
-        ended-outcome : setWhere (λ i. eqb (keyOf flags i) 1) v (pad maxTasks 0 (t .tasks .outcomes)) maxTasks ≡ pad maxTasks 0 ((endWaits t p out) .tasks .outcomes)
-        ended-outcome = set-column (λ i. eqb (keyOf flags i) 1) v (pad maxTasks 0 (t .tasks .outcomes)) ((endWaits t p out) .tasks .outcomes)
-            (length-pad maxTasks 0 (t .tasks .outcomes) (omega (arith, F .outcome-column, F .few-tasks)))
+        ended-outcome : setWhere (λ i. eqb (keyOf flags i) 1) v (pad taskPlaces 0 (t .tasks .outcomes)) taskPlaces ≡ pad taskPlaces 0 ((endWaits t p out) .tasks .outcomes)
+        ended-outcome = set-column (λ i. eqb (keyOf flags i) 1) v (pad taskPlaces 0 (t .tasks .outcomes)) ((endWaits t p out) .tasks .outcomes)
+            (length-pad taskPlaces 0 (t .tasks .outcomes) (omega (arith, F .outcome-column, F .few-tasks)))
             (omega (arith, length-edit (λ i x. cond (p i) (out i) x) (t .tasks .outcomes), F .outcome-column, F .few-tasks))
-            (λ i. ap (λ b. cond b (v i) (getD (pad maxTasks 0 (t .tasks .outcomes)) i 0)) (flag-one flags p fl i)
-            ∙ ap (cond (p i) (v i)) (getD-pad maxTasks 0 (t .tasks .outcomes) i)
+            (λ i. ap (λ b. cond b (v i) (getD (pad taskPlaces 0 (t .tasks .outcomes)) i 0)) (flag-one flags p fl i)
+            ∙ ap (cond (p i) (v i)) (getD-pad taskPlaces 0 (t .tasks .outcomes) i)
             ∙ at i)
           where
             at : (i : ℕ) → cond (p i) (v i) (outcomeOf t i) ≡ getD ((endWaits t p out) .tasks .outcomes) i 0
@@ -93,9 +93,9 @@ module _ (t : Tables) (F : Facts t) (p : ℕ → Bool) (named : (i : ℕ) → p 
             ]
 
       module _ (c slept other : ℕ) (same : (i : ℕ) → p i ≡ true → cond (eqb (kindCode (waitOf t i)) onTime) slept other ≡ out i) where
-        pub tasks-ended : endedWhere (packTasks t c) flags slept other maxTasks ≡ putLevel (packTasks (endWaits t p out) c) (levelColumn t)
+        pub tasks-ended : endedWhere (packTasks t c) flags slept other taskPlaces ≡ putLevel (packTasks (endWaits t p out) c) (levelColumn t)
         unfolding packTasks levelColumn kindCode objectCode timedCode dueCode
-        tasks-ended = ended-columns (packTasks t c) flags slept other maxTasks (omega arith)
+        tasks-ended = ended-columns (packTasks t c) flags slept other taskPlaces (omega arith)
             ∙ same-columns (packTasks t c) (ended-code (dueCode c) refl)
             (ended-outcome (leftOutcome (packTasks t c) slept other) (λ i e. ap (λ z. cond (eqb z onTime) slept other) (wait-code t kindCode i refl) ∙ same i e))
             (ended-code kindCode refl) (ended-code objectCode refl) (ended-code timedCode refl)
@@ -118,15 +118,15 @@ unfolding dueFor dueCode leftCode ticksOf
 due-for a c t = elim (which (eqb t forever)) [ inl e ↦ rw e refl | inr e ↦ rw e refl ]
 
 module _ (t : Tables) (F : Facts t) (r : ℕ) (h : r < taskCount t) where
-  begun-code : (f : Option Wait → ℕ) (w : Wait) {v : ℕ} → v ≡ f (some w) → set (pad maxTasks 0 (map f (t .tasks .waits))) r v ≡ pad maxTasks 0 (map f (set (t .tasks .waits) r (some w)))
-  begun-code f w e = ap (set (pad maxTasks 0 (map f (t .tasks .waits))) r) e
-      ∙ pad-set maxTasks 0 (map f (t .tasks .waits)) r (f (some w)) (omega (arith, length-map (t .tasks .waits) f, F .wait-column)) ∙ ap (pad maxTasks 0) (sym (map-set f (t .tasks .waits) r (some w)))
+  begun-code : (f : Option Wait → ℕ) (w : Wait) {v : ℕ} → v ≡ f (some w) → set (pad taskPlaces 0 (map f (t .tasks .waits))) r v ≡ pad taskPlaces 0 (map f (set (t .tasks .waits) r (some w)))
+  begun-code f w e = ap (set (pad taskPlaces 0 (map f (t .tasks .waits))) r) e
+      ∙ pad-set taskPlaces 0 (map f (t .tasks .waits)) r (f (some w)) (omega (arith, length-map (t .tasks .waits) f, F .wait-column)) ∙ ap (pad taskPlaces 0) (sym (map-set f (t .tasks .waits) r (some w)))
 
   tasks-begun : (c : ℕ) (a : Awaited) (x : ℕ)
       → waitBegun (packTasks t c) r (awaitedKind a) (awaitedObject a) (timedFor x) (dueFor c x) ≡ putLevel (packTasks (beginWait t r (waitFor a x)) c) (levelColumn t)
   unfolding packTasks levelColumn waitBegun kindCode objectCode
-  tasks-begun c a x = chosen _ _ _ (lt-ltb r maxTasks (omega (arith, F .few-tasks)))
-      ∙ same-columns (packTasks t c) (begun-code (dueCode c) (waitFor a x) (due-for a c x)) (pad-set maxTasks 0 (t .tasks .outcomes) r pending (omega (arith, F .outcome-column)))
+  tasks-begun c a x = chosen _ _ _ (lt-ltb r taskPlaces (omega (arith, F .few-tasks)))
+      ∙ same-columns (packTasks t c) (begun-code (dueCode c) (waitFor a x) (due-for a c x)) (pad-set taskPlaces 0 (t .tasks .outcomes) r pending (omega (arith, F .outcome-column)))
       (begun-code kindCode (waitFor a x) refl) (begun-code objectCode (waitFor a x) refl) (begun-code timedCode (waitFor a x) (timed-for a x))
 
 -- the caller waits

@@ -15,7 +15,7 @@ use Rattle.lists.specs.Table.{pad}
 use Rattle.lists.specs.TestLaws.{which, by-test}
 use Rattle.lists.specs.CountLaws.{eqn-at, eqn-other}
 use Rattle.lists.specs.TableLaws.{length-pad, getD-pad}
-use Rattle.rules.specs.Sizes.{maxTasks, onTime}
+use Rattle.rules.specs.Sizes.{taskPlaces, onTime}
 use Rattle.rules.specs.Step.{level, outcome}
 use Rattle.rules.specs.Effect.{due}
 use Rattle.task_lists.specs.TaskList.{keyOf, inserted, insertedFlagged}
@@ -35,7 +35,7 @@ pub flag-zero : (flags : List ℕ) (p : ℕ → Bool) → Flags flags p → (i :
 flag-zero flags p h i = rw (h i) (by-test (λ (x : ℕ). eqb x 0 ≡ not (p i)) (p i) (λ e. rw e refl) (λ e. rw e refl))
 
 -- one task
-pub single-flags : (w : ℕ) → w < maxTasks → Flags (single w) (eqb w)
+pub single-flags : (w : ℕ) → w < taskPlaces → Flags (single w) (eqb w)
 unfolding eqn
 single-flags w h i = single-at w i h
 
@@ -89,9 +89,9 @@ module _ (p : ℕ → Bool) (v : ℕ → ℕ) (l : List ℕ) where
   ]
 
   -- a whole column is the padded one that holds the same
-  pub set-column : (k : List ℕ) → length l ≡ maxTasks → length k ≤ maxTasks → ((i : ℕ) → cond (p i) (v i) (getD l i 0) ≡ getD k i 0) → setWhere p v l maxTasks ≡ pad maxTasks 0 k
-  set-column k e h f = ext-getD 0 (setWhere p v l maxTasks) (pad maxTasks 0 k) (length-setWhere maxTasks ∙ (e ∙ sym (length-pad maxTasks 0 k h)))
-      (λ i q. setWhere-below maxTasks i (omega (arith, length-setWhere maxTasks)) (omega arith) ∙ (f i ∙ sym (getD-pad maxTasks 0 k i)))
+  pub set-column : (k : List ℕ) → length l ≡ taskPlaces → length k ≤ taskPlaces → ((i : ℕ) → cond (p i) (v i) (getD l i 0) ≡ getD k i 0) → setWhere p v l taskPlaces ≡ pad taskPlaces 0 k
+  set-column k e h f = ext-getD 0 (setWhere p v l taskPlaces) (pad taskPlaces 0 k) (length-setWhere taskPlaces ∙ (e ∙ sym (length-pad taskPlaces 0 k h)))
+      (λ i q. setWhere-below taskPlaces i (omega (arith, length-setWhere taskPlaces)) (omega arith) ∙ (f i ∙ sym (getD-pad taskPlaces 0 k i)))
 
 -- the outcome that an ended wait leaves
 abbrev pub leftOutcome : Tasks → ℕ → ℕ → ℕ → ℕ
@@ -110,11 +110,11 @@ endedColumns t flags slept other n = record {
   n = t .n;
 }
 
-pub ended-columns : (t : Tasks) (flags : List ℕ) (slept other n : ℕ) → n ≤ maxTasks → endedWhere t flags slept other n ≡ endedColumns t flags slept other n
+pub ended-columns : (t : Tasks) (flags : List ℕ) (slept other n : ℕ) → n ≤ taskPlaces → endedWhere t flags slept other n ≡ endedColumns t flags slept other n
 unfolding endedWhere setWhere endedIf waitEnded
 ended-columns t flags slept other zero h = refl
 ended-columns t flags slept other (suc n) h = ap (λ z. endedIf z flags slept other n) (ended-columns t flags slept other n (omega arith)) ∙ elim (which (eqb (keyOf flags n) 1)) [
-  | inl e ↦ rw (e, setWhere-above (λ i. eqb (keyOf flags i) 1) (λ i. 0) (t .wait) n n (omega arith), lt-ltb n maxTasks (omega arith)) (elim (which (eqb (keyOf (t .wait) n) onTime)) [
+  | inl e ↦ rw (e, setWhere-above (λ i. eqb (keyOf flags i) 1) (λ i. 0) (t .wait) n n (omega arith), lt-ltb n taskPlaces (omega arith)) (elim (which (eqb (keyOf (t .wait) n) onTime)) [
     | inl f ↦ rw f refl
     | inr f ↦ rw f refl
   ])

@@ -15,7 +15,7 @@ use Rattle.lists.specs.Order.{before}
 use Rattle.lists.specs.TestLaws.{which, clash, by-test, none-some}
 use Rattle.lists.specs.CountLaws.{occ-append}
 use Rattle.lists.specs.TableLaws.{getD-fill}
-use Rattle.rules.specs.Sizes.{maxTasks, granted, onMutex, onTime}
+use Rattle.rules.specs.Sizes.{taskPlaces, granted, onMutex, onTime}
 use Rattle.rules.specs.Levels.{chainOf, linksOf, closesRing, awaits, bestWaiter}
 use Rattle.rules.specs.Step.{lock, unlock}
 use Rattle.rules.specs.Effect.{give, beginWait, endWaits, ended, waitFor, callerWaits, lockBy, passOn, effect}
@@ -29,7 +29,7 @@ use Rattle.task_lists.specs.TaskList.{noId, idOf}
 use Rattle.record.specs.Record.{kindCode, packTasks, packMutexes, packSemaphores, pack}
 use Rattle.record.specs.StepRecord.{outFor}
 use Rattle.record.specs.Reads.{ownerAt}
-use Rattle.steps.specs.Machine.{single, settled, dispatched, woke, blockedOn, ownerSet, accept, refuse, lockWaits, lockStep, unlockStep}
+use Rattle.steps.specs.Machine.{single, settled, dispatched, woke, blockedOn, ownerSet, answerIn, lockWaits, lockStep, unlockStep}
 use Rattle.record.specs.PackLaws.{levelColumn, packWith}
 use Rattle.record.specs.ReadLaws.{owner-read}
 use Rattle.record.specs.ColumnLaws.{chosen, skipped}
@@ -100,20 +100,20 @@ module _ (s : Model) (I : Inv s) where
         (λ i. flag-one (single w) (eqb w) (single-flags w (best-below s I (mutexOf m) w best)) i
         ∙ sym (member-ended (s .tables) (I .facts) (eqb w) (best-named s I (mutexOf m) w best) i))
 
-  pass-on : (m : ℕ) → m < mutexCount (s .tables) → (o : Option ℕ) → bestWaiter (s .tables) (mutexOf m) ≡ o → accept (passed (pack s) m (idOf o)) 0 0 ≡ ruled s (unlock m) []
+  pass-on : (m : ℕ) → m < mutexCount (s .tables) → (o : Option ℕ) → bestWaiter (s .tables) (mutexOf m) ≡ o → answerIn (passed (pack s) m (idOf o)) 0 0 ≡ ruled s (unlock m) []
   unfolding passed pack effect passOn idOf
   pass-on m h none e = on-accept s (unlock m) (passOn s m none) _ (ap (passOn s m) e) refl (given-finish m none h (facts-free (s .tables) m nobody (I .facts)) nobody)
     where
       nobody : (i : ℕ) → awaits (s .tables) (mutexOf m) i ≡ false
       nobody = nobody-best (s .tables) (I .facts) (mutexOf m) e
-  pass-on m h (some w) e = ap (λ z. accept z 0 0) (skipped _ _ _ (ne-eqb w noId (λ q. omega (arith, best-below s I (mutexOf m) w e))))
+  pass-on m h (some w) e = ap (λ z. answerIn z 0 0) (skipped _ _ _ (ne-eqb w noId (λ q. omega (arith, best-below s I (mutexOf m) w e))))
       ∙ on-accept s (unlock m) (passOn s m (some w)) _ (ap (passOn s m) e) refl (passed-finish m w h e)
 
   pub unlock-pack : (m : ℕ) → unlockStep (pack s) m ≡ outFor (stepSound s (unlock m))
   unfolding unlockStep pack packMutexes refusals awaitedKind awaitedObject
   unlock-pack m = by-rows s (unlock m) (on-caller s I (unlock m) _ (λ r a b run. on-row s (unlock m) _ _ refl (λ e. chosen _ _ _ e) (λ e. skipped _ _ _ e
       ∙ on-row s (unlock m) _ _ refl (λ f. skipped _ _ _ (owns-test m r run ∙ not-true (callerOwns s m) f)) (λ f. chosen _ _ _ (owns-test m r run ∙ not-false (callerOwns s m) f)
-      ∙ ap (λ w. accept (passed (pack s) m w) 0 0) (best-pack s (mutexOf m))
+      ∙ ap (λ w. answerIn (passed (pack s) m w) 0 0) (best-pack s (mutexOf m))
       ∙ pass-on m (leb-false (mutexCount (s .tables)) m e) (bestWaiter (s .tables) (mutexOf m)) refl))))
 
   -- lock: a free mutex becomes the caller's, else the caller waits
@@ -121,26 +121,26 @@ module _ (s : Model) (I : Inv s) where
     -- the end of a lock that meets a taken mutex, by the chain and the caller
     abbrev waits-by : List ℕ → ℕ → Out
     waits-by chain x =
-        cond (eqb t 0) (refuse (pack s) 3 0)
-        (cond (ltb 0 ((pack s) .hold)) (refuse (pack s) 11 0)
-        (cond (member x chain) (refuse (pack s) 12 (length (before x chain)))
-        (accept (dispatched (settled (blockedOn (pack s) x onMutex m t) (replicate maxTasks 0))) 1 (length (before x chain)))))
+        cond (eqb t 0) (answerIn (pack s) 3 0)
+        (cond (ltb 0 ((pack s) .hold)) (answerIn (pack s) 11 0)
+        (cond (member x chain) (answerIn (pack s) 12 (length (before x chain)))
+        (answerIn (dispatched (settled (blockedOn (pack s) x onMutex m t) (replicate taskPlaces 0))) 1 (length (before x chain)))))
 
     waits-same : lockWaits (pack s) m t ≡ waits-by (chainOf (s .tables) (mutexOf m)) r
     unfolding lockWaits pack packTasks
     waits-same = may-wait (pack s) t _ ∙ ap (λ c. waits-by c ((pack s) .running)) (chain-pack s (I .facts) m) ∙ ap (waits-by (chainOf (s .tables) (mutexOf m))) (id-some (s .running) r run)
 
     ring-finish : (o : ℕ) → ownerOf (s .tables) m ≡ some o → eqb t 0 ≡ false → closesRing (s .tables) r (mutexOf m) ≡ false
-        → dispatched (settled (blockedOn (pack s) r onMutex m t) (replicate maxTasks 0)) ≡ pack (dispatch (settle (levelOf s) ((callerWaits s r (mutexOf m) t (linksOf (s .tables) r (mutexOf m))) .state) []))
+        → dispatched (settled (blockedOn (pack s) r onMutex m t) (replicate taskPlaces 0)) ≡ pack (dispatch (settle (levelOf s) ((callerWaits s r (mutexOf m) t (linksOf (s .tables) r (mutexOf m))) .state) []))
     unfolding callerWaits awaitedKind awaitedObject occ
-    ring-finish o e now clear = ap (λ z. dispatched (settled z (replicate maxTasks 0))) (blocked-pack s I r run (mutexOf m) t)
+    ring-finish o e now clear = ap (λ z. dispatched (settled z (replicate taskPlaces 0))) (blocked-pack s I r run (mutexOf m) t)
         ∙ settled-finish s I (placed (withTables s (beginWait (s .tables) r (waitFor (mutexOf m) t))) none (s .ready)) []
         (facts-begin (s .tables) r (waitFor (mutexOf m) t) (caller-in s I r run) (caller-idle s I r run) (o, e) (left-wait (mutexOf m) t refl valid now) clear (I .facts)) refl
         (λ i. omega (arith, I .places i, occ-append i (s .tables .tasks .waiting) (r ∷ []), ap (λ x. occ i (opt x)) run)) (I .ascending)
-        (replicate maxTasks 0) (λ i. ap (λ x. eqb x 1) (getD-fill 0 maxTasks i))
+        (replicate taskPlaces 0) (λ i. ap (λ x. eqb x 1) (getD-fill 0 taskPlaces i))
 
     lock-rest : (o : Option ℕ) → ownerOf (s .tables) m ≡ o
-        → cond (eqb (idOf o) noId) (accept (putMutexes (pack s) (ownerSet ((pack s) .mutexes) m ((pack s) .running))) 0 0) (lockWaits (pack s) m t)
+        → cond (eqb (idOf o) noId) (answerIn (putMutexes (pack s) (ownerSet ((pack s) .mutexes) m ((pack s) .running))) 0 0) (lockWaits (pack s) m t)
         ≡ ruled s (lock m t) ((3 when someb o and eqb t 0) ∷ (11 when someb o and held s)
         ∷ record { number = 12; when = someb o and ofCaller (s .running) (λ q. closesRing (s .tables) q (mutexOf m)); value = linksFor s m (s .running) } ∷ [])
     unfolding pack effect lockBy idOf someb _and_ callerWaits
@@ -159,7 +159,7 @@ module _ (s : Model) (I : Inv s) where
         ∙ on-row s (lock m t) _ _ refl (λ f. chosen _ _ _ f) (λ f. skipped _ _ _ f
         ∙ on-row s (lock m t) _ _ refl (λ g. chosen _ _ _ g) (λ g. skipped _ _ _ g
         ∙ on-row s (lock m t) _ _ refl
-        (λ k. chosen _ _ _ (sym ring-test ∙ k) ∙ ap (refuse (pack s) 12) (sym (links-some s m (s .running) r run)))
+        (λ k. chosen _ _ _ (sym ring-test ∙ k) ∙ ap (answerIn (pack s) 12) (sym (links-some s m (s .running) r run)))
         (λ k. skipped _ _ _ (sym ring-test ∙ k)
         ∙ on-accept s (lock m t) (callerWaits s r (mutexOf m) t (linksOf (s .tables) r (mutexOf m))) _
         (called-some s (s .running) (λ q. lockBy s m t q (ownerOf (s .tables) m)) r run ∙ ap (lockBy s m t r) e) refl
@@ -173,5 +173,5 @@ module _ (s : Model) (I : Inv s) where
   lock-pack m t = by-rows s (lock m t) (on-caller s I (lock m t) _ (λ r a b run. on-row s (lock m t) _ _ refl (λ e. chosen _ _ _ e) (λ e. skipped _ _ _ e
       ∙ on-row s (lock m t) _ _ refl (λ f. skipped _ _ _ (time-test t ∙ not-true (isWaitingTime t) f)) (λ f. chosen _ _ _ (time-test t ∙ not-false (isWaitingTime t) f)
       ∙ on-row s (lock m t) _ _ refl (λ g. chosen _ _ _ (owns-test m r run ∙ g)) (λ g. skipped _ _ _ (owns-test m r run ∙ g)
-      ∙ ap (λ x. cond (eqb x noId) (accept (putMutexes (pack s) (ownerSet ((pack s) .mutexes) m ((pack s) .running))) 0 0) (lockWaits (pack s) m t)) (owner-at m)
+      ∙ ap (λ x. cond (eqb x noId) (answerIn (putMutexes (pack s) (ownerSet ((pack s) .mutexes) m ((pack s) .running))) 0 0) (lockWaits (pack s) m t)) (owner-at m)
       ∙ lock-rest m t r run (leb-false (mutexCount (s .tables)) m e) (not-false (isWaitingTime t) f) (ownerOf (s .tables) m) refl)))))

@@ -8,7 +8,7 @@ use Rattle.lists.specs.Test.{allb}
 use Rattle.lists.specs.Count.{member}
 use Rattle.lists.specs.Order.{before}
 use Rattle.lists.specs.Table.{filled}
-use Rattle.rules.specs.Sizes.{maxTasks, maxMutexes, maxSemaphores, levels, kinds, maxHold, maxTicks, forever, granted, pending, timedOut, flushed, onMutex, onSemaphore, onTime}
+use Rattle.rules.specs.Sizes.{maxTasks, taskPlaces, maxMutexes, maxSemaphores, levels, kinds, maxHold, maxTicks, forever, granted, pending, timedOut, flushed, onMutex, onSemaphore, onTime}
 use Rattle.rules.specs.Step.{level, outcome}
 use Rattle.rules.specs.Effect.{due}
 use Rattle.task_lists.specs.TaskList.{noId, items, keyOf, pushed, inserted, kept, insertedFlagged, counted, bestOf}
@@ -20,14 +20,14 @@ use Rattle.record.specs.declared.Mutexes.{Mutexes}  -- keep
 use Rattle.record.specs.declared.Semaphores.{Semaphores}  -- keep
 use Rattle.task_lists.specs.declared.TaskList.{TaskList}  -- keep
 use Rattle.record.specs.declared.Out.{Out}  -- keep
-use Rattle.record.specs.declared.Answer.the-variants.{Accepted, Refused}  -- keep
 use Rattle.record.specs.declared.Request.{Request}  -- keep
 use Rattle.record.specs.declared.Request.the-variants.{Task, Mutex, Sem, Start, Lock, Unlock, Pend, Post, Flush, Sleep, Yield, Hold, Free, Tick, Level, Outcome}  -- keep
 use Rattle.record.specs.Setters.{putTasks, putSemaphores, putClock, putMutexes, putReady, putWaiting, putStarted, putHold, putRunning, putLevel}
+use Rattle.record.specs.StepRecord.{answerOf}
 use Rattle.record.specs.Reads.{ownerAt, nextAt, newLevels, countAt, maximumAt, firstId}
 
 unfoldable pub waitBegun : Tasks → ℕ → ℕ → ℕ → ℕ → ℕ → Tasks
-waitBegun t i kind object timed due = cond (ltb i maxTasks) (record {
+waitBegun t i kind object timed due = cond (ltb i taskPlaces) (record {
   due = set (t .due) i due;
   priority = t .priority;
   level = t .level;
@@ -39,7 +39,7 @@ waitBegun t i kind object timed due = cond (ltb i maxTasks) (record {
 }) t
 
 unfoldable pub waitEnded : Tasks → ℕ → ℕ → Tasks
-waitEnded t i out = cond (ltb i maxTasks) (record {
+waitEnded t i out = cond (ltb i taskPlaces) (record {
   due = set (t .due) i 0;
   priority = t .priority;
   level = t .level;
@@ -59,7 +59,7 @@ endedWhere t flags slept other (suc i) = endedIf (endedWhere t flags slept other
 
 -- flags that name tasks
 unfoldable pub single : ℕ → List ℕ
-single i = cond (ltb i maxTasks) (set (replicate maxTasks 0) i 1) (replicate maxTasks 0)
+single i = cond (ltb i taskPlaces) (set (replicate taskPlaces 0) i 1) (replicate taskPlaces 0)
 
 unfoldable pub dueFlag : Tasks → ℕ → ℕ → ℕ
 dueFlag t clock i = cond (eqb (getD (t .timed) i 0) 1) (cond (eqb (ticksLeft (getD (t .due) i 0) clock) 1) 1 0) 0
@@ -80,14 +80,14 @@ abbrev pub bothFlag : List ℕ → List ℕ → ℕ → ℕ
 bothFlag a b i = bothOnes (getD a i 0) (getD b i 0)
 
 unfoldable pub anyFlag : List ℕ → Bool
-anyFlag f = not (allb maxTasks (λ i. not (eqb (getD f i 0) 1)))
+anyFlag f = not (allb taskPlaces (λ i. not (eqb (getD f i 0) 1)))
 
 unfoldable pub movedOf : TaskList → List ℕ → List ℕ
-movedOf q changed = filled maxTasks (bothFlag changed (counted (replicate maxTasks 0) (items q)))
+movedOf q changed = filled taskPlaces (bothFlag changed (counted (replicate taskPlaces 0) (items q)))
 
 unfoldable pub resettled : TaskList → List ℕ → List ℕ → List ℕ → ℕ → TaskList
 resettled q old new woken n =
-    let changed = filled maxTasks (differFlag old new) in
+    let changed = filled taskPlaces (differFlag old new) in
     insertedFlagged (insertedFlagged (kept q changed 0) new (movedOf q changed) n) new woken n
 
 unfoldable pub settled : State → List ℕ → State
@@ -115,7 +115,7 @@ dispatched k =
 
 -- the waits of the flagged tasks end
 unfoldable pub woke : State → List ℕ → ℕ → ℕ → State
-woke k flags slept other = putWaiting (putTasks k (endedWhere (k .tasks) flags slept other maxTasks)) (kept (k .waiting) flags 0)
+woke k flags slept other = putWaiting (putTasks k (endedWhere (k .tasks) flags slept other taskPlaces)) (kept (k .waiting) flags 0)
 
 -- they become ready, no level having changed
 unfoldable pub lined : State → List ℕ → State
@@ -139,7 +139,7 @@ unfoldable pub countSet : Semaphores → ℕ → ℕ → Semaphores
 countSet c j v = cond (ltb j maxSemaphores) (record { count = set (c .count) j v; maximum = c .maximum; n = c .n }) c
 
 unfoldable pub taskAdded : Tasks → ℕ → Tasks
-taskAdded t p = cond (ltb (t .n) maxTasks) (record {
+taskAdded t p = cond (ltb (t .n) taskPlaces) (record {
   due = t .due;
   priority = set (t .priority) (t .n) p;
   level = set (t .level) (t .n) p;
@@ -156,12 +156,9 @@ mutexAdded m q = cond (ltb (m .n) maxMutexes) (record { kind = set (m .kind) (m 
 unfoldable pub semAdded : Semaphores → ℕ → ℕ → Semaphores
 semAdded c count max = cond (ltb (c .n) maxSemaphores) (record { count = set (c .count) (c .n) count; maximum = set (c .maximum) (c .n) max; n = c .n + 1 }) c
 
--- answers
-abbrev pub accept : State → ℕ → ℕ → Out
-accept k number value = record { state = k; answer = Accepted number value (k .running) }
-
-abbrev pub refuse : State → ℕ → ℕ → Out
-refuse k number value = record { state = k; answer = Refused number value (k .running) }
+-- the answer of a step, with the running task of the record that it hands back
+abbrev pub answerIn : State → ℕ → ℕ → Out
+answerIn k number value = record { state = k; answer = answerOf number value (k .running) }
 
 -- the steps, refusals in the table's order
 unfoldable pub isTime : ℕ → Bool
@@ -173,54 +170,54 @@ waitRefusal held t = cond (eqb t 0) 3 (cond (ltb 0 held) 11 0)
 
 -- a step by which the caller waits
 unfoldable pub mayWait : State → ℕ → Out → Out
-mayWait k t o = cond (eqb (waitRefusal (k .hold) t) 0) o (refuse k (waitRefusal (k .hold) t) 0)
+mayWait k t o = cond (eqb (waitRefusal (k .hold) t) 0) o (answerIn k (waitRefusal (k .hold) t) 0)
 
 unfoldable pub taskStep : State → ℕ → Out
 taskStep k p =
     cond (eqb (k .started) 0)
-    (cond (leb levels p) (refuse k 7 0)
-    (cond (leb maxTasks (k .tasks .n)) (refuse k 8 0)
-    (accept (putReady (putTasks k (taskAdded (k .tasks) p)) (inserted (k .ready) ((taskAdded (k .tasks) p) .level) (p + 1) (k .tasks .n))) 0 (k .tasks .n))))
-    (refuse k 4 0)
+    (cond (leb levels p) (answerIn k 7 0)
+    (cond (leb maxTasks (k .tasks .n)) (answerIn k 8 0)
+    (answerIn (putReady (putTasks k (taskAdded (k .tasks) p)) (inserted (k .ready) ((taskAdded (k .tasks) p) .level) (p + 1) (k .tasks .n))) 0 (k .tasks .n))))
+    (answerIn k 4 0)
 
 unfoldable pub mutexStep : State → ℕ → Out
 mutexStep k q =
     cond (eqb (k .started) 0)
-    (cond (leb kinds q) (refuse k 7 0)
-    (cond (leb maxMutexes (k .mutexes .n)) (refuse k 8 0)
-    (accept (putMutexes k (mutexAdded (k .mutexes) q)) 0 (k .mutexes .n))))
-    (refuse k 4 0)
+    (cond (leb kinds q) (answerIn k 7 0)
+    (cond (leb maxMutexes (k .mutexes .n)) (answerIn k 8 0)
+    (answerIn (putMutexes k (mutexAdded (k .mutexes) q)) 0 (k .mutexes .n))))
+    (answerIn k 4 0)
 
 unfoldable pub semStep : State → ℕ → ℕ → Out
 semStep k count max =
     cond (eqb (k .started) 0)
-    (cond (eqb max 0) (refuse k 7 0)
-    (cond (ltb max count) (refuse k 7 0)
-    (cond (leb maxSemaphores (k .semaphores .n)) (refuse k 8 0)
-    (accept (putSemaphores k (semAdded (k .semaphores) count max)) 0 (k .semaphores .n)))))
-    (refuse k 4 0)
+    (cond (eqb max 0) (answerIn k 7 0)
+    (cond (ltb max count) (answerIn k 7 0)
+    (cond (leb maxSemaphores (k .semaphores .n)) (answerIn k 8 0)
+    (answerIn (putSemaphores k (semAdded (k .semaphores) count max)) 0 (k .semaphores .n)))))
+    (answerIn k 4 0)
 
 unfoldable pub startStep : State → Out
-startStep k = cond (eqb (k .started) 0) (accept (dispatched (putStarted k 1)) 0 0) (refuse k 4 0)
+startStep k = cond (eqb (k .started) 0) (answerIn (dispatched (putStarted k 1)) 0 0) (answerIn k 4 0)
 
 -- a step that needs a caller
 unfoldable pub calledBy : State → Out → Out
-calledBy k o = cond (eqb (k .started) 0) (refuse k 4 0) (cond (eqb (k .running) noId) (refuse k 5 0) o)
+calledBy k o = cond (eqb (k .started) 0) (answerIn k 4 0) (cond (eqb (k .running) noId) (answerIn k 5 0) o)
 
 unfoldable pub lockWaits : State → ℕ → ℕ → Out
 lockWaits k m t =
-    let chain = chainFrom (filled maxTasks (nextAt (k .tasks) (k .mutexes))) (ownerAt (k .mutexes) m) (k .tasks .n) in
+    let chain = chainFrom (filled taskPlaces (nextAt (k .tasks) (k .mutexes))) (ownerAt (k .mutexes) m) (k .tasks .n) in
     mayWait k t
-    (cond (member (k .running) chain) (refuse k 12 (length (before (k .running) chain)))
-    (accept (dispatched (settled (blockedOn k (k .running) onMutex m t) (replicate maxTasks 0))) 1 (length (before (k .running) chain))))
+    (cond (member (k .running) chain) (answerIn k 12 (length (before (k .running) chain)))
+    (answerIn (dispatched (settled (blockedOn k (k .running) onMutex m t) (replicate taskPlaces 0))) 1 (length (before (k .running) chain))))
 
 unfoldable pub lockStep : State → ℕ → ℕ → Out
 lockStep k m t = calledBy k
-    (cond (leb (k .mutexes .n) m) (refuse k 6 0)
+    (cond (leb (k .mutexes .n) m) (answerIn k 6 0)
     (cond (isTime t)
-    (cond (eqb (ownerAt (k .mutexes) m) (k .running)) (refuse k 9 0)
-    (cond (eqb (ownerAt (k .mutexes) m) noId) (accept (putMutexes k (ownerSet (k .mutexes) m (k .running))) 0 0) (lockWaits k m t)))
-    (refuse k 7 0)))
+    (cond (eqb (ownerAt (k .mutexes) m) (k .running)) (answerIn k 9 0)
+    (cond (eqb (ownerAt (k .mutexes) m) noId) (answerIn (putMutexes k (ownerSet (k .mutexes) m (k .running))) 0 0) (lockWaits k m t)))
+    (answerIn k 7 0)))
 
 abbrev pub bestAt : State → ℕ → ℕ → ℕ
 bestAt k kind object = bestOf (k .waiting) (k .tasks .wait) (k .tasks .object) (k .tasks .level) kind object
@@ -231,67 +228,67 @@ passed k m w = cond (eqb w noId) (putMutexes k (ownerSet (k .mutexes) m noId))
 
 unfoldable pub unlockStep : State → ℕ → Out
 unlockStep k m = calledBy k
-    (cond (leb (k .mutexes .n) m) (refuse k 6 0)
-    (cond (eqb (ownerAt (k .mutexes) m) (k .running)) (accept (passed k m (bestAt k onMutex m)) 0 0) (refuse k 10 0)))
+    (cond (leb (k .mutexes .n) m) (answerIn k 6 0)
+    (cond (eqb (ownerAt (k .mutexes) m) (k .running)) (answerIn (passed k m (bestAt k onMutex m)) 0 0) (answerIn k 10 0)))
 
 unfoldable pub pendStep : State → ℕ → ℕ → Out
 pendStep k j t = calledBy k
-    (cond (leb (k .semaphores .n) j) (refuse k 6 0)
+    (cond (leb (k .semaphores .n) j) (answerIn k 6 0)
     (cond (isTime t)
     (cond (eqb (countAt (k .semaphores) j) 0)
-    (mayWait k t (accept (dispatched (blockedOn k (k .running) onSemaphore j t)) 1 0))
-    (accept (putSemaphores k (countSet (k .semaphores) j (countAt (k .semaphores) j - 1))) 0 0))
-    (refuse k 7 0)))
+    (mayWait k t (answerIn (dispatched (blockedOn k (k .running) onSemaphore j t)) 1 0))
+    (answerIn (putSemaphores k (countSet (k .semaphores) j (countAt (k .semaphores) j - 1))) 0 0))
+    (answerIn k 7 0)))
 
 unfoldable pub creditStep : State → ℕ → ℕ → Out
 creditStep k j w =
     cond (eqb w noId)
-    (cond (leb (maximumAt (k .semaphores) j) (countAt (k .semaphores) j)) (refuse k 2 0)
-    (accept (putSemaphores k (countSet (k .semaphores) j (countAt (k .semaphores) j + 1))) 0 0))
-    (accept (dispatched (lined (woke k (single w) granted granted) (single w))) 0 0)
+    (cond (leb (maximumAt (k .semaphores) j) (countAt (k .semaphores) j)) (answerIn k 2 0)
+    (answerIn (putSemaphores k (countSet (k .semaphores) j (countAt (k .semaphores) j + 1))) 0 0))
+    (answerIn (dispatched (lined (woke k (single w) granted granted) (single w))) 0 0)
 
 unfoldable pub postStep : State → ℕ → Out
 postStep k j =
-    cond (eqb (k .started) 0) (refuse k 4 0)
-    (cond (leb (k .semaphores .n) j) (refuse k 6 0) (creditStep k j (bestAt k onSemaphore j)))
+    cond (eqb (k .started) 0) (answerIn k 4 0)
+    (cond (leb (k .semaphores .n) j) (answerIn k 6 0) (creditStep k j (bestAt k onSemaphore j)))
 
 unfoldable pub flushStep : State → ℕ → Out
 flushStep k j =
-    let flags = filled maxTasks (waiterFlag (k .tasks) onSemaphore j) in
-    cond (eqb (k .started) 0) (refuse k 4 0)
-    (cond (leb (k .semaphores .n) j) (refuse k 6 0) (accept (dispatched (lined (woke k flags flushed flushed) flags)) 0 0))
+    let flags = filled taskPlaces (waiterFlag (k .tasks) onSemaphore j) in
+    cond (eqb (k .started) 0) (answerIn k 4 0)
+    (cond (leb (k .semaphores .n) j) (answerIn k 6 0) (answerIn (dispatched (lined (woke k flags flushed flushed) flags)) 0 0))
 
 unfoldable pub sleepStep : State → ℕ → Out
 sleepStep k t = calledBy k
-    (cond (eqb t 0) (refuse k 7 0)
-    (cond (ltb maxTicks t) (refuse k 7 0)
-    (cond (eqb (k .hold) 0) (accept (dispatched (blockedOn k (k .running) onTime 0 t)) 1 0) (refuse k 11 0))))
+    (cond (eqb t 0) (answerIn k 7 0)
+    (cond (ltb maxTicks t) (answerIn k 7 0)
+    (cond (eqb (k .hold) 0) (answerIn (dispatched (blockedOn k (k .running) onTime 0 t)) 1 0) (answerIn k 11 0))))
 
 unfoldable pub yieldStep : State → Out
 yieldStep k = calledBy k
     (cond (eqb (k .hold) 0)
-    (accept (dispatched (putRunning (putReady k (inserted (k .ready) (k .tasks .level) (keyOf (k .tasks .level) (k .running) + 1) (k .running))) noId)) 0 0)
-    (refuse k 11 0))
+    (answerIn (dispatched (putRunning (putReady k (inserted (k .ready) (k .tasks .level) (keyOf (k .tasks .level) (k .running) + 1) (k .running))) noId)) 0 0)
+    (answerIn k 11 0))
 
 unfoldable pub holdStep : State → Out
-holdStep k = calledBy k (cond (leb maxHold (k .hold)) (refuse k 13 0) (accept (putHold k (k .hold + 1)) 0 0))
+holdStep k = calledBy k (cond (leb maxHold (k .hold)) (answerIn k 13 0) (answerIn (putHold k (k .hold + 1)) 0 0))
 
 unfoldable pub freeStep : State → Out
-freeStep k = calledBy k (cond (eqb (k .hold) 0) (refuse k 13 0) (accept (dispatched (putHold k (k .hold - 1))) 0 0))
+freeStep k = calledBy k (cond (eqb (k .hold) 0) (answerIn k 13 0) (answerIn (dispatched (putHold k (k .hold - 1))) 0 0))
 
 unfoldable pub tickStep : State → Out
 tickStep k =
-    let flags = filled maxTasks (dueFlag (k .tasks) (k .clock)) in
-    cond (eqb (k .started) 0) (refuse k 4 0)
+    let flags = filled taskPlaces (dueFlag (k .tasks) (k .clock)) in
+    cond (eqb (k .started) 0) (answerIn k 4 0)
     (cond (anyFlag flags)
-    (accept (dispatched (settled (putClock (woke k flags granted timedOut) (dueAt (k .clock) 1)) flags)) 0 0)
-    (accept (putClock k (dueAt (k .clock) 1)) 0 0))
+    (answerIn (dispatched (settled (putClock (woke k flags granted timedOut) (dueAt (k .clock) 1)) flags)) 0 0)
+    (answerIn (putClock k (dueAt (k .clock) 1)) 0 0))
 
 unfoldable pub levelStep : State → ℕ → Out
-levelStep k i = cond (leb (k .tasks .n) i) (refuse k 6 0) (accept k 0 (keyOf (k .tasks .level) i))
+levelStep k i = cond (leb (k .tasks .n) i) (answerIn k 6 0) (answerIn k 0 (keyOf (k .tasks .level) i))
 
 unfoldable pub outcomeStep : State → ℕ → Out
-outcomeStep k i = cond (leb (k .tasks .n) i) (refuse k 6 0) (accept k 0 (keyOf (k .tasks .outcome) i))
+outcomeStep k i = cond (leb (k .tasks .n) i) (answerIn k 6 0) (answerIn k 0 (keyOf (k .tasks .outcome) i))
 
 -- the step for each request
 unfoldable pub machineStep : State → Request → Out

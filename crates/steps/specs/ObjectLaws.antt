@@ -14,7 +14,7 @@ use Rattle.lists.specs.Table.{pad, filled}
 use Rattle.lists.specs.TestLaws.{which, clash}
 use Rattle.lists.specs.TableLaws.{snoc-default, snoc-last, length-snoc, length-filled, filled-ext, pad-set, pad-snoc}
 use Rattle.chains.specs.Least.{leastLeading}
-use Rattle.rules.specs.Sizes.{maxTasks, maxMutexes, maxSemaphores, levels}
+use Rattle.rules.specs.Sizes.{taskPlaces, maxMutexes, maxSemaphores, levels}
 use Rattle.rules.specs.Levels.{heirAwaited, ofWait, lends, levelIn, sameAwaited, waitIsFor, awaits}
 use Rattle.rules.specs.Effect.{addTask, addMutex, addSem, give, setCount, beginWait, endWaits, age, ageAll}
 use Rattle.rules.specs.Invariant.{Facts}
@@ -131,7 +131,7 @@ module _ (t : Tables) where
   lends-none i e = rw e refl
 
 -- a task made while nobody waits
-module _ (t : Tables) (F : Facts t) (silent : (i : ℕ) → waitOf t i ≡ none) (p : ℕ) (low : p < levels) (room : taskCount t < maxTasks) where
+module _ (t : Tables) (F : Facts t) (silent : (i : ℕ) → waitOf t i ≡ none) (p : ℕ) (low : p < levels) (room : taskCount t < taskPlaces) where
   new-facts : Facts (addTask t p)
   new-facts = facts-addTask t p low room F
 
@@ -147,22 +147,22 @@ module _ (t : Tables) (F : Facts t) (silent : (i : ℕ) → waitOf t i ≡ none)
   pub old-level : (i : ℕ) → i < taskCount t → levelIn (addTask t p) i ≡ levelIn t i
   old-level i h = new-level i (omega arith) ∙ (List·getD-append (t .tasks .priorities) (p ∷ []) 0 i h ∙ sym (level-alone t F silent i h))
 
-  level-added : set (pad maxTasks 0 (filled (taskCount t) (levelIn t))) (taskCount t) p ≡ pad maxTasks 0 (filled (taskCount (addTask t p)) (levelIn (addTask t p)))
+  level-added : set (pad taskPlaces 0 (filled (taskCount t) (levelIn t))) (taskCount t) p ≡ pad taskPlaces 0 (filled (taskCount (addTask t p)) (levelIn (addTask t p)))
   unfolding filled
   level-added =
-      ap (λ n. set (pad maxTasks 0 (filled (taskCount t) (levelIn t))) n p) (sym (length-filled (taskCount t) (levelIn t)))
-      ∙ pad-snoc maxTasks 0 (filled (taskCount t) (levelIn t)) p (omega (arith, length-filled (taskCount t) (levelIn t)))
-      ∙ sym (ap (λ n. pad maxTasks 0 (filled n (levelIn (addTask t p)))) more
-      ∙ ap (λ l. pad maxTasks 0 (l ++ (levelIn (addTask t p) (taskCount t) ∷ []))) (filled-ext (taskCount t) (levelIn (addTask t p)) (levelIn t) old-level)
-      ∙ ap (λ x. pad maxTasks 0 (filled (taskCount t) (levelIn t) ++ (x ∷ []))) made-level)
+      ap (λ n. set (pad taskPlaces 0 (filled (taskCount t) (levelIn t))) n p) (sym (length-filled (taskCount t) (levelIn t)))
+      ∙ pad-snoc taskPlaces 0 (filled (taskCount t) (levelIn t)) p (omega (arith, length-filled (taskCount t) (levelIn t)))
+      ∙ sym (ap (λ n. pad taskPlaces 0 (filled n (levelIn (addTask t p)))) more
+      ∙ ap (λ l. pad taskPlaces 0 (l ++ (levelIn (addTask t p) (taskCount t) ∷ []))) (filled-ext (taskCount t) (levelIn (addTask t p)) (levelIn t) old-level)
+      ∙ ap (λ x. pad taskPlaces 0 (filled (taskCount t) (levelIn t) ++ (x ∷ []))) made-level)
 
-  code-added : (f : Option Wait → ℕ) → f none ≡ 0 → pad maxTasks 0 (map f (t .tasks .waits)) ≡ pad maxTasks 0 (map f (t .tasks .waits ++ (none ∷ [])))
-  code-added f e = sym (ap (pad maxTasks 0) (map-snoc f (t .tasks .waits) none ∙ ap (λ x. map f (t .tasks .waits) ++ (x ∷ [])) e)
-      ∙ pad-default maxTasks 0 (map f (t .tasks .waits)) (omega (arith, length-map (t .tasks .waits) f, F .wait-column)))
+  code-added : (f : Option Wait → ℕ) → f none ≡ 0 → pad taskPlaces 0 (map f (t .tasks .waits)) ≡ pad taskPlaces 0 (map f (t .tasks .waits ++ (none ∷ [])))
+  code-added f e = sym (ap (pad taskPlaces 0) (map-snoc f (t .tasks .waits) none ∙ ap (λ x. map f (t .tasks .waits) ++ (x ∷ [])) e)
+      ∙ pad-default taskPlaces 0 (map f (t .tasks .waits)) (omega (arith, length-map (t .tasks .waits) f, F .wait-column)))
 
   pub task-added : (c : ℕ) → taskAdded (packTasks t c) p ≡ packTasks (addTask t p) c
   unfolding taskAdded packTasks kindCode objectCode timedCode dueCode
-  task-added c = chosen _ _ _ (lt-ltb (taskCount t) maxTasks room)
-      ∙ same-tasks _ _ (code-added (dueCode c) refl) (pad-snoc maxTasks 0 (t .tasks .priorities) p room) level-added
-      (sym (pad-default maxTasks 0 (t .tasks .outcomes) (omega (arith, F .outcome-column)))) (code-added kindCode refl) (code-added objectCode refl) (code-added timedCode refl)
+  task-added c = chosen _ _ _ (lt-ltb (taskCount t) taskPlaces room)
+      ∙ same-tasks _ _ (code-added (dueCode c) refl) (pad-snoc taskPlaces 0 (t .tasks .priorities) p room) level-added
+      (sym (pad-default taskPlaces 0 (t .tasks .outcomes) (omega (arith, F .outcome-column)))) (code-added kindCode refl) (code-added objectCode refl) (code-added timedCode refl)
       (sym (length-append (t .tasks .priorities) (p ∷ [])))

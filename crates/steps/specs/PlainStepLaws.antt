@@ -13,7 +13,7 @@ use Rattle.lists.specs.Order.{insertTail}
 use Rattle.lists.specs.TestLaws.{clash, or-none}
 use Rattle.lists.specs.CountLaws.{below-le, pigeonhole}
 use Rattle.lists.specs.TableLaws.{length-snoc, getD-pad}
-use Rattle.rules.specs.Sizes.{maxTasks, maxMutexes, maxSemaphores, levels, kinds}
+use Rattle.rules.specs.Sizes.{maxTasks, taskPlaces, maxMutexes, maxSemaphores, levels, kinds}
 use Rattle.rules.specs.Levels.{levelIn}
 use Rattle.rules.specs.Step.{task, mutex, sem, start, yield, hold, free, level, outcome}
 use Rattle.rules.specs.Effect.{done, addTask, addMutex, addSem, yieldBy, effect}
@@ -28,7 +28,7 @@ use Rattle.task_lists.specs.TaskList.{noId, taskListOf, keyOf, inserted, idOf}
 use Rattle.task_lists.specs.TaskListLaws.{tail-taskListOf}
 use Rattle.record.specs.Record.{packTasks, packMutexes, packSemaphores, pack}
 use Rattle.record.specs.StepRecord.{outFor}
-use Rattle.steps.specs.Machine.{single, dispatched, lined, taskAdded, accept, taskStep, mutexStep, semStep, startStep, yieldStep, holdStep, freeStep, levelStep, outcomeStep}
+use Rattle.steps.specs.Machine.{single, dispatched, lined, taskAdded, answerIn, taskStep, mutexStep, semStep, startStep, yieldStep, holdStep, freeStep, levelStep, outcomeStep}
 use Rattle.record.specs.PackLaws.{levelColumn, packWith}
 use Rattle.record.specs.ReadLaws.{key-levels, level-read}
 use Rattle.record.specs.ColumnLaws.{chosen, skipped}
@@ -51,12 +51,12 @@ module _ (s : Model) (I : Inv s) where
   pub level-step-pack : (i : ℕ) → levelStep (pack s) i ≡ outFor (stepSound s (level i))
   unfolding levelStep pack packTasks refusals effect
   level-step-pack i = by-rows s (level i) (on-row s (level i) _ _ refl (λ e. chosen _ _ _ e) (λ e. skipped _ _ _ e
-      ∙ ap (accept (pack s) 0) (level-read (s .tables) (s .clock) i) ∙ on-accept s (level i) (done s [] (levelOf s i)) (pack s) refl refl idle-pack))
+      ∙ ap (answerIn (pack s) 0) (level-read (s .tables) (s .clock) i) ∙ on-accept s (level i) (done s [] (levelOf s i)) (pack s) refl refl idle-pack))
 
   pub outcome-pack : (i : ℕ) → outcomeStep (pack s) i ≡ outFor (stepSound s (outcome i))
   unfolding outcomeStep pack packTasks refusals effect
   outcome-pack i = by-rows s (outcome i) (on-row s (outcome i) _ _ refl (λ e. chosen _ _ _ e) (λ e. skipped _ _ _ e
-      ∙ ap (accept (pack s) 0) (getD-pad maxTasks 0 (s .tables .tasks .outcomes) i) ∙ on-accept s (outcome i) (done s [] (outcomeOf (s .tables) i)) (pack s) refl refl idle-pack))
+      ∙ ap (answerIn (pack s) 0) (getD-pad taskPlaces 0 (s .tables .tasks .outcomes) i) ∙ on-accept s (outcome i) (done s [] (outcomeOf (s .tables) i)) (pack s) refl refl idle-pack))
 
   pub hold-pack : holdStep (pack s) ≡ outFor (stepSound s hold)
   unfolding holdStep pack packTasks packWith levelColumn refusals effect
@@ -124,7 +124,7 @@ module _ (s : Model) (I : Inv s) where
       (lone off (addSem (s .tables) count max) refl refl) (λ z. z)))))))
 
   -- "A task becomes ready at the tail of its level."
-  module _ (off : s .started ≡ false) (p : ℕ) (low : p < levels) (room : taskCount (s .tables) < maxTasks) where
+  module _ (off : s .started ≡ false) (p : ℕ) (low : p < levels) (room : taskCount (s .tables) < taskPlaces) where
     abbrev grown : Tables
     grown = addTask (s .tables) p
 
@@ -159,4 +159,4 @@ module _ (s : Model) (I : Inv s) where
   task-pack p = by-rows s (task p) (on-set-up s I (task p) _ (λ off. on-row s (task p) _ _ refl (λ e. chosen _ _ _ e) (λ e. skipped _ _ _ e
       ∙ on-row s (task p) _ _ refl (λ f. chosen _ _ _ f) (λ f. skipped _ _ _ f
       ∙ on-accept s (task p) (done (withTables s (addTask (s .tables) p)) (taskCount (s .tables) ∷ []) (taskCount (s .tables))) _ refl refl
-      (made-pack off p (leb-false levels p e) (leb-false maxTasks (taskCount (s .tables)) f))))))
+      (made-pack off p (leb-false levels p e) (omega (arith, leb-false maxTasks (taskCount (s .tables)) f)))))))

@@ -9,7 +9,7 @@ use lib.Dec.{ltb, leb, eqb}
 use borrow.Author.Tests.{ltb-true, ltb-false, not-false, eq-eqb, ne-eqb}
 use Rattle.lists.specs.Test.{_or_, someb}
 use Rattle.lists.specs.TestLaws.{by-test, some-true}
-use Rattle.rules.specs.Sizes.{maxTasks}
+use Rattle.rules.specs.Sizes.{taskPlaces}
 use Rattle.rules.specs.Effect.{Effect, called, effect}
 use Rattle.rules.specs.Settle.{settle, dispatch, finish}
 use Rattle.rules.specs.Refusal.{Row, _when_, noCaller, refusals, firstRow}
@@ -18,7 +18,7 @@ use Rattle.rules.specs.StepLaws.{caller-in}
 use Rattle.task_lists.specs.TaskList.{noId, idOf}
 use Rattle.record.specs.Record.{pack}
 use Rattle.record.specs.StepRecord.{answerFor, outFor}
-use Rattle.steps.specs.Machine.{accept, refuse, calledBy}
+use Rattle.steps.specs.Machine.{answerIn, calledBy}
 use Rattle.record.specs.ColumnLaws.{chosen, skipped}
 use Rattle.record.specs.declared.State.{State}  -- keep
 use Rattle.record.specs.declared.Out.{Out}  -- keep
@@ -36,19 +36,19 @@ by-rows s x e = e
 
 -- a step that the first row refuses, or that goes on to the others
 pub on-row : (s : Model) (x : Step) {o : Out} (r : Row) (rs : List Row) → leb (r .number) 1 ≡ false
-    → (r .when ≡ true → o ≡ refuse (pack s) (r .number) (r .value)) → (r .when ≡ false → o ≡ ruled s x rs) → o ≡ ruled s x (r ∷ rs)
+    → (r .when ≡ true → o ≡ answerIn (pack s) (r .number) (r .value)) → (r .when ≡ false → o ≡ ruled s x rs) → o ≡ ruled s x (r ∷ rs)
 unfolding ruled firstRow decide outFor answerFor pack
 on-row s x {o} r rs n out further = by-test (λ (z : Option Row). o ≡ outFor (decide s x z)) (r .when) (λ e. out e ∙ rw n refl) further
 
 -- the accepted step
-accept-pack : (s : Model) (n v : ℕ) → leb n 1 ≡ true → accept (pack s) n v ≡ outFor (answered s n v)
+accept-pack : (s : Model) (n v : ℕ) → leb n 1 ≡ true → answerIn (pack s) n v ≡ outFor (answered s n v)
 unfolding outFor answerFor pack
 accept-pack s n v e = rw e refl
 
 pub on-accept : (s : Model) (x : Step) (E : Effect) (k : State) → effect s x ≡ E → leb (E .number) 1 ≡ true → k ≡ pack (dispatch (settle (levelOf s) (E .state) (E .woken)))
-    → accept k (E .number) (E .value) ≡ ruled s x []
+    → answerIn k (E .number) (E .value) ≡ ruled s x []
 unfolding ruled firstRow decide finish
-on-accept s x E k e n q = ap (λ z. accept z (E .number) (E .value)) q ∙ accept-pack (finish s E) (E .number) (E .value) n
+on-accept s x E k e n q = ap (λ z. answerIn z (E .number) (E .value)) q ∙ accept-pack (finish s E) (E .number) (E .value) n
     ∙ ap (λ z. outFor (answered (finish s z) (z .number) (z .value))) (sym e)
 
 -- tests of the record and of the state
@@ -87,7 +87,7 @@ unfolding idOf
 id-some o r e = rw e refl
 
 module _ (s : Model) (I : Inv s) where
-  pub running-below : (r : ℕ) → s .running ≡ some r → r < maxTasks
+  pub running-below : (r : ℕ) → s .running ≡ some r → r < taskPlaces
   running-below r e = omega (arith, caller-in s I r e, I .facts .few-tasks)
 
   pub running-test : eqb ((pack s) .running) noId ≡ noCaller s
@@ -104,10 +104,10 @@ module _ (s : Model) (I : Inv s) where
 
   -- a step for which the system must run
   pub on-started : (x : Step) {o : Out} (rs : List Row) → (not (s .started) ≡ false → o ≡ ruled s x rs)
-      → cond (eqb ((pack s) .started) 0) (refuse (pack s) 4 0) o ≡ ruled s x ((4 when not (s .started)) ∷ rs)
+      → cond (eqb ((pack s) .started) 0) (answerIn (pack s) 4 0) o ≡ ruled s x ((4 when not (s .started)) ∷ rs)
   on-started x rs h = on-row s x _ _ refl (λ e. chosen _ _ _ (started-test s ∙ e)) (λ e. skipped _ _ _ (started-test s ∙ e) ∙ h e)
 
   -- a step of set-up
   pub on-set-up : (x : Step) {o : Out} (rs : List Row) → (s .started ≡ false → o ≡ ruled s x rs)
-      → cond (eqb ((pack s) .started) 0) o (refuse (pack s) 4 0) ≡ ruled s x ((4 when s .started) ∷ rs)
+      → cond (eqb ((pack s) .started) 0) o (answerIn (pack s) 4 0) ≡ ruled s x ((4 when s .started) ∷ rs)
   on-set-up x rs h = on-row s x _ _ refl (λ e. skipped _ _ _ (started-test s ∙ ap not e)) (λ e. chosen _ _ _ (started-test s ∙ ap not e) ∙ h e)

@@ -17,7 +17,7 @@ use Rattle.lists.specs.TestLaws.{which, false-and}
 use Rattle.lists.specs.CountLaws.{in-below, below-le, pigeonhole}
 use Rattle.lists.specs.OrderLaws.{insertAll-append, keep-all, asc-change, keep-ext, byId-ext, byId-none, keep-in, asc-keep, stable-append}
 use Rattle.lists.specs.TableLaws.{length-filled, getD-filled}
-use Rattle.rules.specs.Sizes.{maxTasks}
+use Rattle.rules.specs.Sizes.{taskPlaces}
 use Rattle.rules.specs.Tables.{taskCount}
 use Rattle.rules.specs.Levels.{levelIn}
 use Rattle.rules.specs.Settle.{settledReady, settle}
@@ -68,10 +68,10 @@ settled-fits n old new ready woken fits = pigeonhole n (settledReady n old new r
     total y = omega (arith, fits y, occ-settled n old new ready woken y (omega (arith, fits y)) (omega (arith, fits y)))
 
 -- what the code makes of the ready order is the settled order
-module _ (n : ℕ) (old new ready woken flags : List ℕ) (few : n ≤ maxTasks) (lo : length old ≡ maxTasks) (ln : length new ≡ maxTasks)
+module _ (n : ℕ) (old new ready woken flags : List ℕ) (few : n ≤ taskPlaces) (lo : length old ≡ taskPlaces) (ln : length new ≡ taskPlaces)
     (fits : (i : ℕ) → occ i woken + occ i ready ≤ below i n) (asc : Asc (keyOf old) ready) (flagged : (i : ℕ) → eqb (keyOf flags i) 1 ≡ member i woken) where
   changes : List ℕ
-  changes = filled maxTasks (differFlag old new)
+  changes = filled taskPlaces (differFlag old new)
 
   same : ℕ → Bool
   same i = eqb (keyOf new i) (keyOf old i)
@@ -90,13 +90,13 @@ module _ (n : ℕ) (old new ready woken flags : List ℕ) (few : n ≤ maxTasks)
 
   changes-at : (i : ℕ) → keyOf changes i ≡ differs (keyOf old i) (keyOf new i)
   unfolding changes differs
-  changes-at i = elim (decLt i maxTasks) [
-    | yes h ↦ getD-filled maxTasks (differFlag old new) 0 i h
+  changes-at i = elim (decLt i taskPlaces) [
+    | yes h ↦ getD-filled taskPlaces (differFlag old new) 0 i h
     | no h ↦ (
         let b : length old ≤ i = omega arith in
         let c : length new ≤ i = omega arith in
-        let d : length (filled maxTasks (differFlag old new)) ≤ i = omega (arith, length-filled maxTasks (differFlag old new)) in
-        List·getD-eq-default (filled maxTasks (differFlag old new)) 0 d ∙ sym (rw (List·getD-eq-default old 0 b, List·getD-eq-default new 0 c) refl)
+        let d : length (filled taskPlaces (differFlag old new)) ≤ i = omega (arith, length-filled taskPlaces (differFlag old new)) in
+        List·getD-eq-default (filled taskPlaces (differFlag old new)) 0 d ∙ sym (rw (List·getD-eq-default old 0 b, List·getD-eq-default new 0 c) refl)
         )
   ]
 
@@ -104,23 +104,23 @@ module _ (n : ℕ) (old new ready woken flags : List ℕ) (few : n ≤ maxTasks)
   unfolding stayed same
   stayed-is = keep-ext _ _ ready (λ y m. rw (changes-at y) (differ-0 (keyOf old y) (keyOf new y)))
 
-  counted-at : (i : ℕ) → i < maxTasks → eqb (keyOf (counted (replicate maxTasks 0) ready) i) 1 ≡ member i ready
+  counted-at : (i : ℕ) → i < taskPlaces → eqb (keyOf (counted (replicate taskPlaces 0) ready) i) 1 ≡ member i ready
   counted-at i h = rw e (once-1 (occ i ready) (omega (arith, fits i, below-le i n)))
     where
-      empty : keyOf (replicate maxTasks 0) i ≡ 0
-      empty = getD-replicate maxTasks i 0 0 h
+      empty : keyOf (replicate taskPlaces 0) i ≡ 0
+      empty = getD-replicate taskPlaces i 0 0 h
 
-      e : keyOf (counted (replicate maxTasks 0) ready) i ≡ occ i ready
-      e = getD-counted (replicate maxTasks 0) ready i h (omega (arith, empty)) ∙ omega (arith, empty, fits i, below-le i n)
+      e : keyOf (counted (replicate taskPlaces 0) ready) i ≡ occ i ready
+      e = getD-counted (replicate taskPlaces 0) ready i h (omega (arith, empty)) ∙ omega (arith, empty, fits i, below-le i n)
 
   moved-is : byId n (λ i. eqb (keyOf (movedOf (taskListOf ready) changes) i) 1) ≡ moved
   unfolding moved same movedOf
   moved-is = byId-ext n _ _ (λ i h.
-      let q : i < maxTasks = omega arith in
+      let q : i < taskPlaces = omega arith in
       rw (
         items-taskListOf ready,
-        getD-filled maxTasks (bothFlag changes (counted (replicate maxTasks 0) ready)) 0 i q,
-        both-1 (keyOf changes i) (keyOf (counted (replicate maxTasks 0) ready) i),
+        getD-filled taskPlaces (bothFlag changes (counted (replicate taskPlaces 0) ready)) 0 i q,
+        both-1 (keyOf changes i) (keyOf (counted (replicate taskPlaces 0) ready) i),
         changes-at i,
         differ-1 (keyOf old i) (keyOf new i),
         counted-at i q,
@@ -137,7 +137,7 @@ module _ (n : ℕ) (old new ready woken flags : List ℕ) (few : n ≤ maxTasks)
       up : Asc (keyOf new) (keep same ready)
       up = asc-change (keyOf old) (keyOf new) (keep same ready) (λ y m. sym (eqb-true _ _ (keep-in same y ready m .0))) (asc-keep (keyOf old) same ready asc)
 
-  sizes : length came + (length moved + length stayed) ≤ maxTasks
+  sizes : length came + (length moved + length stayed) ≤ taskPlaces
   unfolding order
   sizes = omega (arith, settled-fits n (keyOf old) (keyOf new) ready woken fits, ap length order-is, length-insertAll (keyOf new) came (insertAll (keyOf new) moved stayed), length-insertAll (keyOf new) moved stayed)
 
@@ -167,7 +167,7 @@ module _ (before s : Model) (same-tasks : taskCount (s .tables) ≡ taskCount (b
 
   pub column-kept : levelColumn (before .tables) ≡ levelColumn (s .tables)
   unfolding levelColumn
-  column-kept = ap (λ n. pad maxTasks 0 (filled n (levelOf before))) (sym same-tasks) ∙ ap (λ f. pad maxTasks 0 (filled (taskCount (s .tables)) f)) levels-kept
+  column-kept = ap (λ n. pad taskPlaces 0 (filled n (levelOf before))) (sym same-tasks) ∙ ap (λ f. pad taskPlaces 0 (filled (taskCount (s .tables)) f)) levels-kept
 
 -- a packed state whose levels are still those of the state before, where nobody became ready and no level changed
 pub unchanged-pack : (before s : Model) → taskCount (s .tables) ≡ taskCount (before .tables) → Asc (levelOf before) (s .ready)
@@ -220,7 +220,7 @@ module _ (before s : Model) (woken flags : List ℕ) (F : Facts (s .tables)) (sa
         came : byId (taskCount (s .tables)) (λ i. eqb (keyOf flags i) 1) ≡ byId (taskCount (s .tables)) (λ i. member i woken)
         came = byId-ext (taskCount (s .tables)) _ _ (λ i h. flagged i)
 
-        sizes : length (s .ready) + length (byId (taskCount (s .tables)) (λ i. eqb (keyOf flags i) 1)) ≤ maxTasks
+        sizes : length (s .ready) + length (byId (taskCount (s .tables)) (λ i. eqb (keyOf flags i) 1)) ≤ taskPlaces
         sizes = omega (
           arith,
           F .few-tasks,

@@ -16,7 +16,7 @@ use Rattle.lists.specs.TestLaws.{which, by-test, all-true}
 use Rattle.lists.specs.OrderLaws.{keep-all, keep-none}
 use Rattle.lists.specs.TableLaws.{length-filled}
 use Rattle.chains.specs.Chain.{on}
-use Rattle.rules.specs.Sizes.{maxTasks, wordSize, granted, timedOut}
+use Rattle.rules.specs.Sizes.{taskPlaces, wordSize, granted, timedOut}
 use Rattle.rules.specs.Step.{tick, level, outcome}
 use Rattle.rules.specs.Effect.{endWaits, ended, isDue, due, outcomeDue, age, ageAll, tickOf, effect}
 use Rattle.rules.specs.Settle.{settle, dispatch}
@@ -29,7 +29,7 @@ use Rattle.task_lists.specs.TaskList.{keyOf}
 use Rattle.record.specs.Record.{dueAt, kindCode, objectCode, timedCode, dueCode, packTasks, packMutexes, packSemaphores, pack}
 use Rattle.record.specs.StepRecord.{outFor}
 use Rattle.record.specs.Setters.{putLevel}
-use Rattle.steps.specs.Machine.{dueFlag, anyFlag, settled, dispatched, woke, accept, tickStep}
+use Rattle.steps.specs.Machine.{dueFlag, anyFlag, settled, dispatched, woke, answerIn, tickStep}
 use Rattle.record.specs.PackLaws.{levelColumn, packWith}
 use Rattle.record.specs.ColumnLaws.{chosen, skipped, pad-ext}
 use Rattle.steps.specs.FlagLaws.{Flags, flag-one}
@@ -62,9 +62,9 @@ end-nobody t p out h = λ i. withTasks t (record {
 
 -- the columns of waits that are a tick older
 module _ (t : Tables) (F : Facts t) where
-  aged-column : (f g : Option Wait → ℕ) → f none ≡ 0 → g none ≡ 0 → ((i : ℕ) → g (age (waitOf t i)) ≡ f (waitOf t i)) → pad maxTasks 0 (map f (t .tasks .waits)) ≡ pad maxTasks 0 (map g ((ageAll t) .tasks .waits))
+  aged-column : (f g : Option Wait → ℕ) → f none ≡ 0 → g none ≡ 0 → ((i : ℕ) → g (age (waitOf t i)) ≡ f (waitOf t i)) → pad taskPlaces 0 (map f (t .tasks .waits)) ≡ pad taskPlaces 0 (map g ((ageAll t) .tasks .waits))
   unfolding age
-  aged-column f g e h same = pad-ext maxTasks 0 (map f (t .tasks .waits)) (map g ((ageAll t) .tasks .waits))
+  aged-column f g e h same = pad-ext taskPlaces 0 (map f (t .tasks .waits)) (map g ((ageAll t) .tasks .waits))
       (omega (arith, length-map (t .tasks .waits) f, F .wait-column, F .few-tasks)) (omega (arith, length-map ((ageAll t) .tasks .waits) g, length-map (t .tasks .waits) age, F .wait-column, F .few-tasks))
       (λ i. ap (getD (map f (t .tasks .waits)) i) (sym e) ∙ List·getD-map f (t .tasks .waits) i none ∙ sym (same i) ∙ ap g (sym (List·getD-map age (t .tasks .waits) i none))
       ∙ sym (List·getD-map g ((ageAll t) .tasks .waits) i none) ∙ ap (getD (map g ((ageAll t) .tasks .waits)) i) h)
@@ -89,13 +89,13 @@ aged-pack : (s : Model) (l : List ℕ) → Facts (s .tables) → ((i : ℕ) → 
 unfolding pack packWith packMutexes packSemaphores
 aged-pack s l F later = ap (λ z. putClock (putTasks (packWith l s) z) (dueAt (s .clock) 1)) (tasks-aged (s .tables) F (s .clock) l later)
 
-tick-done : (s : Model) (k : State) → k ≡ pack (dispatch (settle (levelOf s) ((tickOf s) .state) ((tickOf s) .woken))) → accept k 0 0 ≡ ruled s tick []
+tick-done : (s : Model) (k : State) → k ≡ pack (dispatch (settle (levelOf s) ((tickOf s) .state) ((tickOf s) .woken))) → answerIn k 0 0 ≡ ruled s tick []
 unfolding tickOf effect
 tick-done s k q = on-accept s tick (tickOf s) k refl refl q
 
 module _ (s : Model) (I : Inv s) where
   abbrev flags : List ℕ
-  flags = filled maxTasks (dueFlag ((pack s) .tasks) ((pack s) .clock))
+  flags = filled taskPlaces (dueFlag ((pack s) .tasks) ((pack s) .clock))
 
   abbrev expired : Tables
   expired = endWaits (s .tables) (due (s .tables)) (λ i. outcomeDue (waitOf (s .tables) i))
@@ -104,8 +104,8 @@ module _ (s : Model) (I : Inv s) where
   unfolding pack
   flags-due = due-flags (s .tables) (I .facts) (s .clock) (I .clock-in)
 
-  wide : length flags ≡ maxTasks
-  wide = length-filled maxTasks (dueFlag ((pack s) .tasks) ((pack s) .clock))
+  wide : length flags ≡ taskPlaces
+  wide = length-filled taskPlaces (dueFlag ((pack s) .tasks) ((pack s) .clock))
 
   named : (i : ℕ) → due (s .tables) i ≡ true → waitCount (waitOf (s .tables) i) ≡ 1
   named i e = due-waits (waitOf (s .tables) i) e
@@ -131,8 +131,8 @@ module _ (s : Model) (I : Inv s) where
   -- none is
   nobody-due : anyFlag flags ≡ false → (i : ℕ) → due (s .tables) i ≡ false
   unfolding anyFlag
-  nobody-due e i = sym (flag-one flags (due (s .tables)) flags-due i) ∙ elim (decLt i maxTasks) [
-    | yes h ↦ not-true (eqb (keyOf flags i) 1) (all-true maxTasks (λ j. not (eqb (keyOf flags j) 1)) (not-false _ e) i h)
+  nobody-due e i = sym (flag-one flags (due (s .tables)) flags-due i) ∙ elim (decLt i taskPlaces) [
+    | yes h ↦ not-true (eqb (keyOf flags i) 1) (all-true taskPlaces (λ j. not (eqb (keyOf flags j) 1)) (not-false _ e) i h)
     | no h ↦ (let q : length flags ≤ i = omega (arith, wide) in ap (λ x. eqb x 1) (List·getD-eq-default flags 0 q))
   ]
 

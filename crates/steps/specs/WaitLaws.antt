@@ -12,7 +12,7 @@ use Rattle.lists.specs.Table.{filled}
 use Rattle.lists.specs.TestLaws.{clash}
 use Rattle.lists.specs.TableLaws.{length-filled, getD-filled}
 use Rattle.chains.specs.Chain.{walk}
-use Rattle.rules.specs.Sizes.{maxTasks, wordSize, granted, timedOut, onTime}
+use Rattle.rules.specs.Sizes.{taskPlaces, wordSize, granted, timedOut, onTime}
 use Rattle.rules.specs.Levels.{ownerAwaited, next, chainOf, sameAwaited, waitIsFor, awaits, waitersOf, bestWaiter}
 use Rattle.rules.specs.Effect.{isDue, due, expiry, outcomeDue, lessOne, age}
 use Rattle.rules.specs.Invariant.{Left, Timed, Facts}
@@ -99,20 +99,20 @@ aged-timed (some w) = go (w .left)
 
 module _ (t : Tables) (F : Facts t) where
   -- a table of flags for a test that nobody passes who does not wait
-  flags-of : (f : ℕ → ℕ) (p : Option Wait → Bool) → p none ≡ false → ((i : ℕ) → f i ≡ bit (p (waitOf t i))) → Flags (filled maxTasks f) (λ i. p (waitOf t i))
-  flags-of f p e h i = elim (decLt i maxTasks) [
-    | yes k ↦ getD-filled maxTasks f 0 i k ∙ h i
-    | no k ↦ (let q : length (filled maxTasks f) ≤ i = omega (arith, length-filled maxTasks f) in
-        List·getD-eq-default (filled maxTasks f) 0 q ∙ sym (ap (λ w. bit (p w)) (wait-out t (F .wait-column) i (omega (arith, F .few-tasks))) ∙ rw e refl))
+  flags-of : (f : ℕ → ℕ) (p : Option Wait → Bool) → p none ≡ false → ((i : ℕ) → f i ≡ bit (p (waitOf t i))) → Flags (filled taskPlaces f) (λ i. p (waitOf t i))
+  flags-of f p e h i = elim (decLt i taskPlaces) [
+    | yes k ↦ getD-filled taskPlaces f 0 i k ∙ h i
+    | no k ↦ (let q : length (filled taskPlaces f) ≤ i = omega (arith, length-filled taskPlaces f) in
+        List·getD-eq-default (filled taskPlaces f) 0 q ∙ sym (ap (λ w. bit (p w)) (wait-out t (F .wait-column) i (omega (arith, F .few-tasks))) ∙ rw e refl))
   ]
 
   module _ (c : ℕ) where
-    pub waiter-flags : (a : Awaited) → Flags (filled maxTasks (waiterFlag (packTasks t c) (awaitedKind a) (awaitedObject a))) (awaits t a)
+    pub waiter-flags : (a : Awaited) → Flags (filled taskPlaces (waiterFlag (packTasks t c) (awaitedKind a) (awaitedObject a))) (awaits t a)
     unfolding waiterFlag waitIsFor
     waiter-flags a = flags-of (waiterFlag (packTasks t c) (awaitedKind a) (awaitedObject a)) (λ w. waitIsFor w a) refl (λ i.
         rw (kind-read t c i, object-read t c i) (two-tests _ _ ∙ ap bit (coded-wait (waitOf t i) a)))
 
-    pub due-flags : c < wordSize → Flags (filled maxTasks (dueFlag (packTasks t c) c)) (due t)
+    pub due-flags : c < wordSize → Flags (filled taskPlaces (dueFlag (packTasks t c) c)) (due t)
     unfolding dueFlag isDue
     due-flags h = flags-of (dueFlag (packTasks t c) c) isDue refl (λ i. rw (timed-read t c i, due-read t c i) (due-code c (waitOf t i) h (F .timed i)))
 
@@ -130,7 +130,7 @@ best-pack s a = rw (
 
 -- the chain of a mutex
 module _ (s : Model) (F : Facts (s .tables)) where
-  pub chain-pack : (m : ℕ) → chainFrom (filled maxTasks (nextAt ((pack s) .tasks) ((pack s) .mutexes))) (ownerAt ((pack s) .mutexes) m) ((pack s) .tasks .n) ≡ chainOf (s .tables) (mutexOf m)
+  pub chain-pack : (m : ℕ) → chainFrom (filled taskPlaces (nextAt ((pack s) .tasks) ((pack s) .mutexes))) (ownerAt ((pack s) .mutexes) m) ((pack s) .tasks .n) ≡ chainOf (s .tables) (mutexOf m)
   unfolding chainOf pack packTasks ownerAwaited
-  chain-pack m = walk-ext (nextIn (filled maxTasks (nextAt ((pack s) .tasks) ((pack s) .mutexes)))) (next (s .tables)) (next-pack s F) (taskCount (s .tables)) (taskAt (ownerAt ((pack s) .mutexes) m))
+  chain-pack m = walk-ext (nextIn (filled taskPlaces (nextAt ((pack s) .tasks) ((pack s) .mutexes)))) (next (s .tables)) (next-pack s F) (taskCount (s .tables)) (taskAt (ownerAt ((pack s) .mutexes) m))
       ∙ ap (walk (taskCount (s .tables)) (next (s .tables))) (ap taskAt (owner-read (s .tables) m) ∙ owner-back (s .tables) F m)

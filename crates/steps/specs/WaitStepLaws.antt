@@ -16,7 +16,7 @@ use Rattle.lists.specs.TestLaws.{which, clash, by-test, same-test, and-l, and-r
 use Rattle.lists.specs.CountLaws.{occ-append}
 use Rattle.lists.specs.TableLaws.{getD-pad}
 use Rattle.chains.specs.Chain.{on}
-use Rattle.rules.specs.Sizes.{maxTasks, maxSemaphores, maxTicks, forever, granted, flushed, onSemaphore, onTime}
+use Rattle.rules.specs.Sizes.{taskPlaces, maxSemaphores, maxTicks, forever, granted, flushed, onSemaphore, onTime}
 use Rattle.rules.specs.Levels.{ownerAwaited, heirAwaited, lends, awaits, bestWaiter}
 use Rattle.rules.specs.Step.{pend, post, flush, sleep}
 use Rattle.rules.specs.Effect.{done, setCount, beginWait, endWaits, ended, ticksOf, waitFor, callerWaits, pendBy, credit, flushOf, effect}
@@ -32,7 +32,7 @@ use Rattle.task_lists.specs.TaskList.{noId, keyOf, idOf}
 use Rattle.record.specs.Record.{kindCode, packTasks, packMutexes, packSemaphores, pack}
 use Rattle.record.specs.StepRecord.{outFor}
 use Rattle.record.specs.Reads.{countAt, maximumAt}
-use Rattle.steps.specs.Machine.{single, waiterFlag, dispatched, woke, lined, blockedOn, countSet, accept, refuse, isTime, waitRefusal, mayWait, pendStep, creditStep, postStep, flushStep, sleepStep}
+use Rattle.steps.specs.Machine.{single, waiterFlag, dispatched, woke, lined, blockedOn, countSet, answerIn, isTime, waitRefusal, mayWait, pendStep, creditStep, postStep, flushStep, sleepStep}
 use Rattle.record.specs.PackLaws.{levelColumn, packWith}
 use Rattle.record.specs.ColumnLaws.{chosen, skipped}
 use Rattle.steps.specs.FlagLaws.{Flags, flag-one, single-flags}
@@ -68,11 +68,11 @@ sleep-test t = elim (decLt 0 t) [
 ]
 
 -- the rows of a caller that would wait
-pub may-wait : (k : State) (t : ℕ) (o : Out) → mayWait k t o ≡ cond (eqb t 0) (refuse k 3 0) (cond (ltb 0 (k .hold)) (refuse k 11 0) o)
+pub may-wait : (k : State) (t : ℕ) (o : Out) → mayWait k t o ≡ cond (eqb t 0) (answerIn k 3 0) (cond (ltb 0 (k .hold)) (answerIn k 11 0) o)
 unfolding mayWait waitRefusal
 may-wait k t o = go (eqb t 0) (ltb 0 (k .hold))
   where
-    go : (a b : Bool) → cond (eqb (cond a 3 (cond b 11 0)) 0) o (refuse k (cond a 3 (cond b 11 0)) 0) ≡ cond a (refuse k 3 0) (cond b (refuse k 11 0) o)
+    go : (a b : Bool) → cond (eqb (cond a 3 (cond b 11 0)) 0) o (answerIn k (cond a 3 (cond b 11 0)) 0) ≡ cond a (answerIn k 3 0) (cond b (answerIn k 11 0) o)
     go true b = refl
     go false true = refl
     go false false = refl
@@ -113,8 +113,8 @@ module _ (s : Model) (I : Inv s) where
       (level-same (s .tables) (setCount (s .tables) k v) (lends-semaphores (s .tables) ((setCount (s .tables) k v) .semaphores)) refl) (λ z. z)
 
   module _ (k t r : ℕ) (run : s .running ≡ some r) (there : noSuchSem s k ≡ false) (valid : isWaitingTime t ≡ true) where
-    pend-waits : noCredit s k ≡ true → cond (eqb t 0) (refuse (pack s) 3 0)
-        (cond (ltb 0 ((pack s) .hold)) (refuse (pack s) 11 0) (accept (dispatched (blockedOn (pack s) ((pack s) .running) onSemaphore k t)) 1 0))
+    pend-waits : noCredit s k ≡ true → cond (eqb t 0) (answerIn (pack s) 3 0)
+        (cond (ltb 0 ((pack s) .hold)) (answerIn (pack s) 11 0) (answerIn (dispatched (blockedOn (pack s) ((pack s) .running) onSemaphore k t)) 1 0))
         ≡ ruled s (pend k t) ((3 when noCredit s k and eqb t 0) ∷ (11 when noCredit s k and held s) ∷ [])
     unfolding pack effect callerWaits awaitedKind awaitedObject ownerAwaited pendBy
     pend-waits none-left = on-row s (pend k t) _ _ refl (λ e. chosen _ _ _ (and-r _ _ e)) (λ e. skipped _ _ _ (and-false _ _ none-left e)
@@ -123,7 +123,7 @@ module _ (s : Model) (I : Inv s) where
         (wait-finish r (semOf k) t 0 run (leb-false (semCount (s .tables)) k there, eqb-true (countOf (s .tables) k) 0 none-left)
         (left-wait (semOf k) t refl valid (and-false _ _ none-left e)) refl)))
 
-    pend-takes : noCredit s k ≡ false → accept (putSemaphores (pack s) (countSet ((pack s) .semaphores) k (countAt ((pack s) .semaphores) k - 1))) 0 0
+    pend-takes : noCredit s k ≡ false → answerIn (putSemaphores (pack s) (countSet ((pack s) .semaphores) k (countAt ((pack s) .semaphores) k - 1))) 0 0
         ≡ ruled s (pend k t) ((3 when noCredit s k and eqb t 0) ∷ (11 when noCredit s k and held s) ∷ [])
     unfolding pack packSemaphores effect pendBy
     pend-takes some-left = on-row s (pend k t) _ _ refl (λ e. absurd (clash (and-l _ _ e) some-left)) (λ e.
@@ -175,7 +175,7 @@ module _ (s : Model) (I : Inv s) where
     pub best-in : w < taskCount (s .tables)
     best-in = wait-in (s .tables) (I .facts) w (omega (arith, best-named w (eq-eqb w w refl)))
 
-    pub best-below : w < maxTasks
+    pub best-below : w < taskPlaces
     best-below = omega (arith, best-in, I .facts .few-tasks)
 
   post-credit : (k : ℕ) → noSuchSem s k ≡ false → (o : Option ℕ) → bestWaiter (s .tables) (semOf k) ≡ o
@@ -211,5 +211,5 @@ module _ (s : Model) (I : Inv s) where
   flush-pack k = by-rows s (flush k) (on-started s I (flush k) _ (λ on. on-row s (flush k) _ _ refl (λ e. chosen _ _ _ e) (λ e. skipped _ _ _ e
       ∙ on-accept s (flush k) (flushOf s k) _ refl refl
       (woken-finish (awaits (s .tables) (semOf k)) (λ i q. awaits-waits (waitOf (s .tables) i) (semOf k) q)
-      (filled maxTasks (waiterFlag ((pack s) .tasks) onSemaphore k)) (waiter-flags (s .tables) (I .facts) (s .clock) (semOf k))
+      (filled taskPlaces (waiterFlag ((pack s) .tasks) onSemaphore k)) (waiter-flags (s .tables) (I .facts) (s .clock) (semOf k))
       (λ i. flushed) (λ i q. inr (inr refl)) flushed (λ i. refl) (awaits-lends (s .tables) (semOf k))))))

@@ -2,13 +2,13 @@
 ghost use mathlib.Core.Path.{_≡_};
 ghost use Prim.Native.Nat.{_<_};
 ghost use Rattle.lists.specs.Table.{filled};
-ghost use Rattle.rules.specs.Sizes.{maxTasks};
+ghost use Rattle.rules.specs.Sizes.{taskPlaces};
 ghost use Rattle.record.specs.Record.{dueAt};
 ghost use Rattle.steps.specs.Machine.{waitBegun, waitEnded, endedIf, endedWhere, single, dueFlag, waiterFlag, differs, differFlag, bothOnes, bothFlag, anyFlag};
-use record::MAX_TASKS;
 use record::NO_WAIT;
 use record::ON_TIME;
 use record::PENDING;
+use record::TASK_PLACES;
 use record::TASKS;
 use record::Tasks;
 use record::reads;
@@ -68,10 +68,10 @@ fn end_if(t: Tasks, flags: [u8; TASKS], slept: u8, other: u8, i: u8) -> Tasks
 
 // The waits of the tasks whose flag is 1 end, sleeps with one outcome and other waits with another.
 pub fn end_where(t: Tasks, flags: [u8; TASKS], slept: u8, other: u8) -> Tasks
-    ensures { λ r. ⌜ r ≡ endedWhere t flags slept other maxTasks ⌝ }
+    ensures { λ r. ⌜ r ≡ endedWhere t flags slept other taskPlaces ⌝ }
 {
     let mut r = t;
-    for i in 0..MAX_TASKS {
+    for i in 0..TASK_PLACES {
         r = end_if(r, flags, slept, other, i);
     }
     r
@@ -91,7 +91,7 @@ pub fn only(i: u8) -> [u8; TASKS]
 
 // Has task `i` a timed wait with one tick left?
 fn due_flag(t: Tasks, clock: u32, i: usize) -> u8
-    requires { ⌜ i < maxTasks ⌝ }
+    requires { ⌜ i < taskPlaces ⌝ }
     ensures { λ r. ⌜ r ≡ dueFlag t clock i ⌝ }
 {
     if t.timed[i] != 1 {
@@ -105,7 +105,7 @@ fn due_flag(t: Tasks, clock: u32, i: usize) -> u8
 
 // The tasks whose waits end at the next tick.
 pub fn due_flags(t: Tasks, clock: u32) -> [u8; TASKS]
-    ensures { λ r. ⌜ r ≡ filled maxTasks (dueFlag t clock) ⌝ }
+    ensures { λ r. ⌜ r ≡ filled taskPlaces (dueFlag t clock) ⌝ }
 {
     let mut f = [0u8; TASKS];
     for i in 0..TASKS {
@@ -116,7 +116,7 @@ pub fn due_flags(t: Tasks, clock: u32) -> [u8; TASKS]
 
 // Does task `i` wait for the object?
 fn waiter_flag(t: Tasks, kind: u8, object: u8, i: usize) -> u8
-    requires { ⌜ i < maxTasks ⌝ }
+    requires { ⌜ i < taskPlaces ⌝ }
     ensures { λ r. ⌜ r ≡ waiterFlag t kind object i ⌝ }
 {
     if t.wait[i] != kind {
@@ -130,7 +130,7 @@ fn waiter_flag(t: Tasks, kind: u8, object: u8, i: usize) -> u8
 
 // The tasks that wait for the object.
 pub fn waiter_flags(t: Tasks, kind: u8, object: u8) -> [u8; TASKS]
-    ensures { λ r. ⌜ r ≡ filled maxTasks (waiterFlag t kind object) ⌝ }
+    ensures { λ r. ⌜ r ≡ filled taskPlaces (waiterFlag t kind object) ⌝ }
 {
     let mut f = [0u8; TASKS];
     for i in 0..TASKS {
@@ -141,7 +141,7 @@ pub fn waiter_flags(t: Tasks, kind: u8, object: u8) -> [u8; TASKS]
 
 // The places where two tables differ.
 pub fn differ(a: [u8; TASKS], b: [u8; TASKS]) -> [u8; TASKS]
-    ensures { λ r. ⌜ r ≡ filled maxTasks (differFlag a b) ⌝ }
+    ensures { λ r. ⌜ r ≡ filled taskPlaces (differFlag a b) ⌝ }
 {
     let mut f = [0u8; TASKS];
     for i in 0..TASKS {
@@ -161,7 +161,7 @@ fn differ_flag(x: u8, y: u8) -> u8
 
 // The places where both tables hold a 1.
 pub fn both(a: [u8; TASKS], b: [u8; TASKS]) -> [u8; TASKS]
-    ensures { λ r. ⌜ r ≡ filled maxTasks (bothFlag a b) ⌝ }
+    ensures { λ r. ⌜ r ≡ filled taskPlaces (bothFlag a b) ⌝ }
 {
     let mut f = [0u8; TASKS];
     for i in 0..TASKS {

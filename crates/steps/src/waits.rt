@@ -51,44 +51,44 @@ fn lock_waits(s: State, m: u8, time: u32) -> Out
 {
     let no = wait_refusal(s.hold, time);
     if no != 0 {
-        return answers::refused(s, no, 0);
+        return answers::answer(s, no, 0);
     }
     let t = s.tasks;
     let mutexes = s.mutexes;
     let next = leads::next_of(t, mutexes);
     let f = walks::follow(&next, reads::owner_at(mutexes, m), s.running, t.n);
     if f.ring {
-        return answers::refused(s, 12, f.links as u32);
+        return answers::answer(s, 12, f.links as u32);
     }
     let b = settle::block(s, s.running, ON_MUTEX, m, time);
     let d = settle::dispatch(settle::settle(b, [0u8; TASKS]));
-    answers::accepted(d, 1, f.links as u32)
+    answers::answer(d, 1, f.links as u32)
 }
 
 pub fn lock(mut s: State, m: u32, time: u32) -> Out
     ensures { λ r. ⌜ r ≡ lockStep s m time ⌝ }
 {
     if s.started == 0 {
-        return answers::refused(s, 4, 0);
+        return answers::answer(s, 4, 0);
     }
     if s.running == NONE {
-        return answers::refused(s, 5, 0);
+        return answers::answer(s, 5, 0);
     }
     if s.mutexes.n as u32 <= m {
-        return answers::refused(s, 6, 0);
+        return answers::answer(s, 6, 0);
     }
     if !is_time(time) {
-        return answers::refused(s, 7, 0);
+        return answers::answer(s, 7, 0);
     }
     let j = m as u8;
     let owner = reads::owner_at(s.mutexes, j);
     if owner == s.running {
-        return answers::refused(s, 9, 0);
+        return answers::answer(s, 9, 0);
     }
     if owner == NONE {
         let mutexes = objects::set_owner(s.mutexes, j, s.running);
         s.mutexes = mutexes;
-        return answers::accepted(s, 0, 0);
+        return answers::answer(s, 0, 0);
     }
     lock_waits(s, j, time)
 }
@@ -112,17 +112,17 @@ pub fn unlock(s: State, m: u32) -> Out
     ensures { λ r. ⌜ r ≡ unlockStep s m ⌝ }
 {
     if s.started == 0 {
-        return answers::refused(s, 4, 0);
+        return answers::answer(s, 4, 0);
     }
     if s.running == NONE {
-        return answers::refused(s, 5, 0);
+        return answers::answer(s, 5, 0);
     }
     if s.mutexes.n as u32 <= m {
-        return answers::refused(s, 6, 0);
+        return answers::answer(s, 6, 0);
     }
     let j = m as u8;
     if reads::owner_at(s.mutexes, j) != s.running {
-        return answers::refused(s, 10, 0);
+        return answers::answer(s, 10, 0);
     }
     let t = s.tasks;
     let kinds = t.wait;
@@ -130,38 +130,38 @@ pub fn unlock(s: State, m: u32) -> Out
     let urgency = t.level;
     let w = task_lists::best_waiter(s.waiting, kinds, objects, urgency, ON_MUTEX, j);
     let r = pass(s, j, w);
-    answers::accepted(r, 0, 0)
+    answers::answer(r, 0, 0)
 }
 
 pub fn pend(mut s: State, k: u32, time: u32) -> Out
     ensures { λ r. ⌜ r ≡ pendStep s k time ⌝ }
 {
     if s.started == 0 {
-        return answers::refused(s, 4, 0);
+        return answers::answer(s, 4, 0);
     }
     if s.running == NONE {
-        return answers::refused(s, 5, 0);
+        return answers::answer(s, 5, 0);
     }
     if s.semaphores.n as u32 <= k {
-        return answers::refused(s, 6, 0);
+        return answers::answer(s, 6, 0);
     }
     if !is_time(time) {
-        return answers::refused(s, 7, 0);
+        return answers::answer(s, 7, 0);
     }
     let j = k as u8;
     let count = reads::count_at(s.semaphores, j);
     if count != 0 {
         let c = objects::set_count(s.semaphores, j, count - 1);
         s.semaphores = c;
-        return answers::accepted(s, 0, 0);
+        return answers::answer(s, 0, 0);
     }
     let no = wait_refusal(s.hold, time);
     if no != 0 {
-        return answers::refused(s, no, 0);
+        return answers::answer(s, no, 0);
     }
     let b = settle::block(s, s.running, ON_SEMAPHORE, j, time);
     let d = settle::dispatch(b);
-    answers::accepted(d, 1, 0)
+    answers::answer(d, 1, 0)
 }
 
 // The waiter `w` gets the credit; where there is none, the count rises up to the maximum.
@@ -172,25 +172,25 @@ fn credit(mut s: State, j: u8, w: u8) -> Out
         let flags = tables::only(w);
         let r = settle::wake(s, flags, GRANTED, GRANTED);
         let d = settle::dispatch(settle::line_up(r, flags));
-        return answers::accepted(d, 0, 0);
+        return answers::answer(d, 0, 0);
     }
     let count = reads::count_at(s.semaphores, j);
     if reads::maximum_at(s.semaphores, j) <= count {
-        return answers::refused(s, 2, 0);
+        return answers::answer(s, 2, 0);
     }
     let c = objects::set_count(s.semaphores, j, count + 1);
     s.semaphores = c;
-    answers::accepted(s, 0, 0)
+    answers::answer(s, 0, 0)
 }
 
 pub fn post(s: State, k: u32) -> Out
     ensures { λ r. ⌜ r ≡ postStep s k ⌝ }
 {
     if s.started == 0 {
-        return answers::refused(s, 4, 0);
+        return answers::answer(s, 4, 0);
     }
     if s.semaphores.n as u32 <= k {
-        return answers::refused(s, 6, 0);
+        return answers::answer(s, 6, 0);
     }
     let j = k as u8;
     let t = s.tasks;
@@ -205,36 +205,36 @@ pub fn flush(s: State, k: u32) -> Out
     ensures { λ r. ⌜ r ≡ flushStep s k ⌝ }
 {
     if s.started == 0 {
-        return answers::refused(s, 4, 0);
+        return answers::answer(s, 4, 0);
     }
     if s.semaphores.n as u32 <= k {
-        return answers::refused(s, 6, 0);
+        return answers::answer(s, 6, 0);
     }
     let flags = tables::waiter_flags(s.tasks, ON_SEMAPHORE, k as u8);
     let r = settle::wake(s, flags, FLUSHED, FLUSHED);
     let d = settle::dispatch(settle::line_up(r, flags));
-    answers::accepted(d, 0, 0)
+    answers::answer(d, 0, 0)
 }
 
 pub fn sleep(s: State, time: u32) -> Out
     ensures { λ r. ⌜ r ≡ sleepStep s time ⌝ }
 {
     if s.started == 0 {
-        return answers::refused(s, 4, 0);
+        return answers::answer(s, 4, 0);
     }
     if s.running == NONE {
-        return answers::refused(s, 5, 0);
+        return answers::answer(s, 5, 0);
     }
     if time == 0 {
-        return answers::refused(s, 7, 0);
+        return answers::answer(s, 7, 0);
     }
     if MAX_TICKS < time {
-        return answers::refused(s, 7, 0);
+        return answers::answer(s, 7, 0);
     }
     if s.hold != 0 {
-        return answers::refused(s, 11, 0);
+        return answers::answer(s, 11, 0);
     }
     let b = settle::block(s, s.running, ON_TIME, 0, time);
     let d = settle::dispatch(b);
-    answers::accepted(d, 1, 0)
+    answers::answer(d, 1, 0)
 }

@@ -8,12 +8,12 @@ use lib.ListN.{length, getD, set, take, drop}
 use Rattle.lists.specs.Test.{_and_, _or_, allb}
 use Rattle.lists.specs.Order.{keep, firstFrom}
 use Rattle.lists.specs.Table.{pad}
-use Rattle.rules.specs.Sizes.{maxTasks, levels}
+use Rattle.rules.specs.Sizes.{taskPlaces, levels}
 use Rattle.task_lists.specs.declared.TaskList.{TaskList}
 
 -- how many places a list has: one for each task that there can be
 abbrev pub places : ℕ
-places = maxTasks
+places = taskPlaces
 
 -- what stands in an unused place, and stands for no task
 abbrev pub noId : ℕ

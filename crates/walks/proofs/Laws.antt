@@ -17,20 +17,9 @@ use Rattle.lists.specs.Order.{before}
 use Rattle.lists.specs.TestLaws.{which, clash, by-test, true-and, all-true}
 use Rattle.lists.specs.CountLaws.{eqn-at, eqn-other}
 use Rattle.chains.specs.Chain.{walk, endsb}
-use Rattle.rules.specs.Sizes.{maxTasks}
+use Rattle.rules.specs.Sizes.{taskPlaces}
 use Rattle.walks.specs.Walk.{taskAt, nextIn, lifted, raised, chainFrom}
 use Rattle.walks.specs.WalkLaws.{task-in, task-out, next-in, getD-lifted}
-
-walk-le : (next : ℕ → Option ℕ) (f : ℕ) (o : Option ℕ) → length (walk f next o) ≤ f
-unfolding walk
-walk-le next zero o = omega arith
-walk-le next (suc f) none = omega arith
-walk-le next (suc f) (some i) = omega (arith, walk-le next f (next i))
-
-before-le : (x : ℕ) (l : List ℕ) → length (before x l) ≤ length l
-unfolding before
-before-le x [] = omega arith
-before-le x (y ∷ l) = by-test (λ (t : List ℕ). length t ≤ length (y ∷ l)) (eqb y x) (λ e. omega arith) (λ e. omega (arith, before-le x l))
 
 -- the chain from an id: spent fuel, no task, and one task more
 module _ (next : List ℕ) (at : ℕ) where
@@ -38,12 +27,12 @@ module _ (next : List ℕ) (at : ℕ) where
   unfolding walk
   chain-spent f e = rw e refl
 
-  chain-out : (f : ℕ) → maxTasks ≤ at → chainFrom next at f ≡ []
+  chain-out : (f : ℕ) → taskPlaces ≤ at → chainFrom next at f ≡ []
   unfolding walk
   chain-out zero h = refl
   chain-out (suc f) h = rw (task-out at h) refl
 
-  chain-in : (f : ℕ) → 0 < f → at < maxTasks → chainFrom next at f ≡ at ∷ chainFrom next (getD next at 0) (f - 1)
+  chain-in : (f : ℕ) → 0 < f → at < taskPlaces → chainFrom next at f ≡ at ∷ chainFrom next (getD next at 0) (f - 1)
   unfolding walk
   chain-in zero p h = absurd (omega arith)
   chain-in (suc f) p h =
@@ -55,11 +44,11 @@ module _ (next : List ℕ) (at : ℕ) where
     unfolding lifted
     lift-spent f e = rw (chain-spent f e) refl
 
-    pub lift-out : (f : ℕ) → maxTasks ≤ at → levels ≡ lifted levels p (chainFrom next at f)
+    pub lift-out : (f : ℕ) → taskPlaces ≤ at → levels ≡ lifted levels p (chainFrom next at f)
     unfolding lifted
     lift-out f h = rw (chain-out f h) refl
 
-    lift-in : (f : ℕ) → 0 < f → at < maxTasks
+    lift-in : (f : ℕ) → 0 < f → at < taskPlaces
         → lifted levels p (chainFrom next at f) ≡ lifted (set levels at (min p (getD levels at 0))) p (chainFrom next (getD next at 0) (f - 1))
     unfolding lifted
     lift-in f q h = rw (chain-in f q h) refl
@@ -71,15 +60,12 @@ module _ (next : List ℕ) (at : ℕ) where
     raise-not h = let e : min p (getD levels at 0) ≡ getD levels at 0 = omega arith in rw e (sym (set-getD levels at 0))
 
     -- one call: the first task of the chain lifted, then the rest
-    pub lift-on : (l r : List ℕ) (f : ℕ) → 0 < f → at < maxTasks → l ≡ set levels at (min p (getD levels at 0))
+    pub lift-on : (l r : List ℕ) (f : ℕ) → 0 < f → at < taskPlaces → l ≡ set levels at (min p (getD levels at 0))
         → r ≡ lifted l p (chainFrom next (getD next at 0) (f - 1)) → r ≡ lifted levels p (chainFrom next at f)
     lift-on l r f q h e u = u ∙ rw e (sym (lift-in f q h))
 
   -- what follow finds
   module _ (caller : ℕ) where
-    pub links-le : (f : ℕ) → length (before caller (chainFrom next at f)) ≤ f
-    links-le f = omega (arith, walk-le (nextIn next) f (taskAt at), before-le caller (chainFrom next at f))
-
     pub links-spent : (f : ℕ) → f ≡ 0 → 0 ≡ length (before caller (chainFrom next at f))
     unfolding before
     links-spent f e = rw (chain-spent f e) refl
@@ -88,15 +74,15 @@ module _ (next : List ℕ) (at : ℕ) where
     unfolding occ
     ring-spent f e = rw (chain-spent f e) refl
 
-    pub links-out : (f : ℕ) → maxTasks ≤ at → 0 ≡ length (before caller (chainFrom next at f))
+    pub links-out : (f : ℕ) → taskPlaces ≤ at → 0 ≡ length (before caller (chainFrom next at f))
     unfolding before
     links-out f h = rw (chain-out f h) refl
 
-    pub ring-out : (f : ℕ) → maxTasks ≤ at → false ≡ member caller (chainFrom next at f)
+    pub ring-out : (f : ℕ) → taskPlaces ≤ at → false ≡ member caller (chainFrom next at f)
     unfolding occ
     ring-out f h = rw (chain-out f h) refl
 
-    module _ (f : ℕ) (left : 0 < f) (task : at < maxTasks) where
+    module _ (f : ℕ) (left : 0 < f) (task : at < taskPlaces) where
       pub links-here : at ≡ caller → 0 ≡ length (before caller (chainFrom next at f))
       unfolding before
       links-here e = rw (chain-in f left task, eq-eqb at caller e) refl
@@ -116,16 +102,16 @@ module _ (next : List ℕ) (at : ℕ) where
           rw (chain-in f left task, q) refl
 
   -- whether it ends
-  pub ends-out : (f : ℕ) → maxTasks ≤ at → true ≡ endsb f (nextIn next) (taskAt at)
+  pub ends-out : (f : ℕ) → taskPlaces ≤ at → true ≡ endsb f (nextIn next) (taskAt at)
   unfolding endsb
   ends-out zero h = rw (task-out at h) refl
   ends-out (suc f) h = rw (task-out at h) refl
 
-  pub ends-spent : (f : ℕ) → f ≡ 0 → at < maxTasks → false ≡ endsb f (nextIn next) (taskAt at)
+  pub ends-spent : (f : ℕ) → f ≡ 0 → at < taskPlaces → false ≡ endsb f (nextIn next) (taskAt at)
   unfolding endsb
   ends-spent f e h = rw (e, task-in at h) refl
 
-  pub ends-in : (f : ℕ) → 0 < f → at < maxTasks
+  pub ends-in : (f : ℕ) → 0 < f → at < taskPlaces
       → endsb f (nextIn next) (taskAt at) ≡ endsb (f - 1) (nextIn next) (taskAt (getD next at 0))
   unfolding endsb
   ends-in zero p h = absurd (omega arith)
@@ -168,7 +154,7 @@ raised-le own next n (suc j) i =
     (by-test (λ (v : ℕ). v ≤ getD own i 0) (member i (walk n (nextIn next) (taskAt j))) (λ u. omega arith) (λ u. omega arith))
 
 -- a task that leads nowhere lifts only itself, and stands there already
-pub raised-alone : (own next l : List ℕ) (n j : ℕ) → l ≡ raised own next n j → 0 < n → j < maxTasks → maxTasks ≤ getD next j 0
+pub raised-alone : (own next l : List ℕ) (n j : ℕ) → l ≡ raised own next n j → 0 < n → j < taskPlaces → taskPlaces ≤ getD next j 0
     → l ≡ raised own next n (j + 1)
 raised-alone own next l n j e some-fuel task nowhere =
     let b : getD l j 0 ≤ getD own j 0 = rw e (raised-le own next n j j) in
@@ -183,7 +169,7 @@ raised-done own next l n j m q e = rw q e
 abbrev pub endsAfter : List ℕ → ℕ → ℕ → Bool
 endsAfter next n i = endsb n (nextIn next) (nextIn next i)
 
-pub ends-read : (next : List ℕ) (n i : ℕ) (r : Bool) → i < maxTasks → r ≡ endsb n (nextIn next) (taskAt (getD next i 0)) → r ≡ endsAfter next n i
+pub ends-read : (next : List ℕ) (n i : ℕ) (r : Bool) → i < taskPlaces → r ≡ endsb n (nextIn next) (taskAt (getD next i 0)) → r ≡ endsAfter next n i
 ends-read next n i r h e = e ∙ ap (endsb n (nextIn next)) (sym (next-in next i h))
 
 -- two tables have the same at i

@@ -6,15 +6,15 @@ use Prim.Native.Nat.{ℕ, zero, suc, min}
 use lib.Dec.{ltb}
 use lib.ListN.{getD, set}
 use Rattle.chains.specs.Chain.{walk}
-use Rattle.rules.specs.Sizes.{maxTasks}
+use Rattle.rules.specs.Sizes.{taskPlaces}
 
 -- an id's task; a number that no task can have stands for none
 abbrev pub taskAt : ℕ → Option ℕ
-taskAt x = cond (ltb x maxTasks) (some x) none
+taskAt x = cond (ltb x taskPlaces) (some x) none
 
 -- the task after i, by a table of ids; a number that no task can have leads nowhere
 abbrev pub nextIn : List ℕ → ℕ → Option ℕ
-nextIn next i = cond (ltb i maxTasks) (taskAt (getD next i 0)) none
+nextIn next i = cond (ltb i taskPlaces) (taskAt (getD next i 0)) none
 
 -- each on the list raised to p: its number in the table becomes the smaller of the two
 unfoldable pub lifted : List ℕ → ℕ → List ℕ → List ℕ

@@ -14,30 +14,24 @@ use Rattle.lists.specs.TestLaws.{by-test, some-same}
 use Rattle.lists.specs.CountLaws.{eqn-at, eqn-other}
 use Rattle.chains.specs.Chain.{walk, endsb}
 use Rattle.chains.specs.Least.{least, leadsTo, leastLeading}
-use Rattle.rules.specs.Sizes.{maxTasks}
+use Rattle.rules.specs.Sizes.{taskPlaces}
 use Rattle.walks.specs.Walk.{taskAt, nextIn, lifted, raised}
-
--- what stands at a place of a table, whatever stands for no place
-pub other-default : (l : List ℕ) (i a b : ℕ) → i < length l → getD l i a ≡ getD l i b
-other-default [] i a b h = absurd (omega arith)
-other-default (x ∷ l) zero a b h = refl
-other-default (x ∷ l) (suc i) a b h = other-default l i a b (omega arith)
 
 -- the task of an id
 module _ (x : ℕ) where
-  pub task-in : x < maxTasks → taskAt x ≡ some x
-  task-in h = rw (lt-ltb x maxTasks h) refl
+  pub task-in : x < taskPlaces → taskAt x ≡ some x
+  task-in h = rw (lt-ltb x taskPlaces h) refl
 
-  pub task-out : maxTasks ≤ x → taskAt x ≡ none
-  task-out h = rw (le-ltb x maxTasks h) refl
+  pub task-out : taskPlaces ≤ x → taskAt x ≡ none
+  task-out h = rw (le-ltb x taskPlaces h) refl
 
 -- the task after i
 module _ (next : List ℕ) (i : ℕ) where
-  pub next-in : i < maxTasks → nextIn next i ≡ taskAt (getD next i 0)
-  next-in h = rw (lt-ltb i maxTasks h) refl
+  pub next-in : i < taskPlaces → nextIn next i ≡ taskAt (getD next i 0)
+  next-in h = rw (lt-ltb i taskPlaces h) refl
 
-  pub next-out : maxTasks ≤ i → nextIn next i ≡ none
-  next-out h = rw (le-ltb i maxTasks h) refl
+  pub next-out : taskPlaces ≤ i → nextIn next i ≡ none
+  next-out h = rw (le-ltb i taskPlaces h) refl
 
 -- a table and a map that agree on the first n tasks, and lead nowhere from the others
 pub next-agrees : (next : List ℕ) (f : ℕ → Option ℕ) (n : ℕ) → ((i : ℕ) → i < n → nextIn next i ≡ f i)
@@ -105,7 +99,7 @@ getD-lifted levels p (x ∷ l) i = elim (ℕ-discrete x i) [
 
 -- after j tasks, the least of the task's own and of those whose chain leads to it
 module _ (own next : List ℕ) (n : ℕ) where
-  pub getD-raised : (j i : ℕ) → j ≤ maxTasks
+  pub getD-raised : (j i : ℕ) → j ≤ taskPlaces
       → getD (raised own next n j) i 0 ≡ least j (λ k. leadsTo n (nextIn next) k i) (λ k. getD own k 0) (getD own i 0)
   unfolding raised least leadsTo
   getD-raised zero i h = refl
@@ -114,12 +108,12 @@ module _ (own next : List ℕ) (n : ℕ) where
       ∙ rw (task-in j (omega arith), getD-raised j i (omega arith)) refl
 
   -- the table that levels_of makes, read at a task
-  pub raised-is-level : n ≤ maxTasks → (i : ℕ) → getD (raised own next n n) i 0 ≡ leastLeading n (nextIn next) (λ j. getD own j 0) i
+  pub raised-is-level : n ≤ taskPlaces → (i : ℕ) → getD (raised own next n n) i 0 ≡ leastLeading n (nextIn next) (λ j. getD own j 0) i
   unfolding leastLeading
   raised-is-level h i = getD-raised n i h
 
   -- the same over another map that agrees with the table
-  pub raised-ext : n ≤ maxTasks → (f : ℕ → Option ℕ) → ((i : ℕ) → nextIn next i ≡ f i)
+  pub raised-ext : n ≤ taskPlaces → (f : ℕ → Option ℕ) → ((i : ℕ) → nextIn next i ≡ f i)
       → (i : ℕ) → getD (raised own next n n) i 0 ≡ leastLeading n f (λ j. getD own j 0) i
   raised-ext h f e i = raised-is-level h i ∙ leading-ext (nextIn next) f e n (λ j. getD own j 0) i
 
@@ -139,7 +133,7 @@ least-none zero p f d h = refl
 least-none (suc n) p f d h = rw (h n (omega arith)) (least-none n p f d (λ j q. h j (omega arith)))
 
 -- the levels of the others stay
-pub raised-out : (own next : List ℕ) (n : ℕ) → n ≤ maxTasks → ((k m : ℕ) → k < n → nextIn next k ≡ some m → m < n)
+pub raised-out : (own next : List ℕ) (n : ℕ) → n ≤ taskPlaces → ((k m : ℕ) → k < n → nextIn next k ≡ some m → m < n)
     → (i : ℕ) → n ≤ i → getD (raised own next n n) i 0 ≡ getD own i 0
 unfolding leadsTo
 raised-out own next n h b i q =

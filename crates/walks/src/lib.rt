@@ -1,20 +1,20 @@
 // Walks from waiter to owner: `next` holds, for each task, the id of the task it leads to; a number that no task can have leads nowhere.
 ghost use mathlib.Core.Path.{_≡_};
-ghost use Prim.Native.Nat.{min};
+ghost use Prim.Native.Nat.{_≤_, min};
 ghost use lib.ListN.{length, getD};
 ghost use lib.Dec.{eqb};
 ghost use Rattle.lists.specs.Test.{allb};
 ghost use Rattle.lists.specs.Count.{member};
 ghost use Rattle.lists.specs.Order.{before};
 ghost use Rattle.chains.specs.Chain.{endsb};
-ghost use Rattle.rules.specs.Sizes.{maxTasks};
+ghost use Rattle.rules.specs.Sizes.{taskPlaces};
 ghost use Rattle.walks.specs.Walk.{taskAt, nextIn, lifted, raised, chainFrom};
 
 // How many tasks there can be.
 pub const TASKS: usize = 16;
 
 // The same, as ids count.
-const MAX_TASKS: u8 = TASKS as u8;
+const TASK_PLACES: u8 = TASKS as u8;
 
 // Each task on the chain from `at` raised to `p`, where that is more urgent; the fuel, tasks not yet seen, falls at each call.
 pub fn lift(levels: [u8; TASKS], next: &[u8; TASKS], at: u8, p: u8, fuel: u8) -> [u8; TASKS]
@@ -36,7 +36,7 @@ pub fn lift(levels: [u8; TASKS], next: &[u8; TASKS], at: u8, p: u8, fuel: u8) ->
 
 // The least own priority among each task and all tasks whose chain leads to it, of the first `n` tasks.
 pub fn levels_of(own: [u8; TASKS], next: &[u8; TASKS], n: u8) -> [u8; TASKS]
-    ensures { λ r. ⌜ r ≡ raised own (now (next .entry)) n (min n maxTasks) ⌝ }
+    ensures { λ r. ⌜ r ≡ raised own (now (next .entry)) n (min n taskPlaces) ⌝ }
 {
     let mut l = own;
     let mut j: u8 = 0;
@@ -47,7 +47,7 @@ pub fn levels_of(own: [u8; TASKS], next: &[u8; TASKS], n: u8) -> [u8; TASKS]
         }
         // A task that leads nowhere lifts only itself, and stands there already.
         let to = next[i];
-        if to < MAX_TASKS {
+        if to < TASK_PLACES {
             let m = lift(l, next, j, own[i], n);
             l = m;
         }
@@ -64,7 +64,7 @@ pub struct Found {
 
 // The chain from `at` to its end, or to the caller; the fuel, tasks not yet seen, falls at each call.
 pub fn follow(next: &[u8; TASKS], at: u8, caller: u8, fuel: u8) -> Found
-    ensures { λ r. ⌜ (r .links ≡ length (before caller (chainFrom (now (next .entry)) at fuel))) × (r .ring ≡ member caller (chainFrom (now (next .entry)) at fuel)) ⌝ }
+    ensures { λ r. ⌜ (r .links ≡ length (before caller (chainFrom (now (next .entry)) at fuel))) × (r .ring ≡ member caller (chainFrom (now (next .entry)) at fuel)) × (r .links ≤ fuel) ⌝ }
 {
     let mut f = Found {
         links: 0,
@@ -102,7 +102,7 @@ pub fn ends(next: &[u8; TASKS], at: u8, fuel: u8) -> bool
 
 // Whether the chain of each of the first `n` tasks ends.
 pub fn all_end(next: &[u8; TASKS], n: u8) -> bool
-    ensures { λ r. ⌜ r ≡ allb (min n maxTasks) (λ i. endsb n (nextIn (now (next .entry))) (nextIn (now (next .entry)) i)) ⌝ }
+    ensures { λ r. ⌜ r ≡ allb (min n taskPlaces) (λ i. endsb n (nextIn (now (next .entry))) (nextIn (now (next .entry)) i)) ⌝ }
 {
     let mut t: u8 = 0;
     while t < n {
@@ -120,7 +120,7 @@ pub fn all_end(next: &[u8; TASKS], n: u8) -> bool
 
 // Whether two tables agree on the first `n` tasks.
 pub fn agree(a: [u8; TASKS], b: [u8; TASKS], n: u8) -> bool
-    ensures { λ r. ⌜ r ≡ allb (min n maxTasks) (λ i. eqb (getD a i 0) (getD b i 0)) ⌝ }
+    ensures { λ r. ⌜ r ≡ allb (min n taskPlaces) (λ i. eqb (getD a i 0) (getD b i 0)) ⌝ }
 {
     let mut k: u8 = 0;
     while k < n {

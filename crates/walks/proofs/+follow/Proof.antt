@@ -1,10 +1,9 @@
 -- `walks::follow` meets its contract: each call passes the first task of the chain, and the fuel falls. Assumes nothing.
 use borrow.Author.Needs.{needs}
 use mathlib.Core.Path.{sym, _∙_}
-use lib.ListN.{getD}
 use native.Mathlib.Omega.{arith}
-use Rattle.walks.proofs.Laws.{links-le, links-spent, ring-spent, links-out, ring-out, links-here, ring-here, links-on, ring-on}
-use Prim.Native.Nat.{ℕ, _-_, _<_}
+use Rattle.walks.proofs.Laws.{links-spent, ring-spent, links-out, ring-out, links-here, ring-here, links-on, ring-on}
+use Prim.Native.Nat.{ℕ, _<_}
 use borrow.Fn.Kinds.{In}
 use borrow.Fn.PlainCycle.{Measures, is, falls, and}
 use Rattle.walks.proofs.follow.Reads as follow
@@ -24,15 +23,15 @@ follow-below t = and 1 follow-kinds.ps (falls 1 follow-kinds.ps _<_ μ-follow t)
 
 follow-returns :
     (t : ℕ) → follow-lts.Need-returns (follow-below t, follow.Post) (follow-at t) follow.Post
-follow-returns t c = let a = c .before .args in let e = c .if1 .taken in (links-spent (a .next .now) (a .at) (a .caller) (a .fuel) e, ring-spent (a .next .now) (a .at) (a .caller) (a .fuel) e)
+follow-returns t c = let a = c .before .args in let e = c .if1 .taken in (links-spent (a .next .now) (a .at) (a .caller) (a .fuel) e, ring-spent (a .next .now) (a .at) (a .caller) (a .fuel) e, omega arith)
 
 follow-returns-2 :
     (t : ℕ) → follow-lts.Need-returns-2 (follow-below t, follow.Post) (follow-at t) follow.Post
-follow-returns-2 t c = let a = c .before .before .args in let h = c .if2 .taken in (links-out (a .next .now) (a .at) (a .caller) (a .fuel) h, ring-out (a .next .now) (a .at) (a .caller) (a .fuel) h)
+follow-returns-2 t c = let a = c .before .before .args in let h = c .if2 .taken in (links-out (a .next .now) (a .at) (a .caller) (a .fuel) h, ring-out (a .next .now) (a .at) (a .caller) (a .fuel) h, omega arith)
 
 follow-returns-3 :
     (t : ℕ) → follow-lts.Need-returns-3 (follow-below t, follow.Post) (follow-at t) follow.Post
-follow-returns-3 t c = let a = c .before .before .before .args in (links-here (a .next .now) (a .at) (a .caller) (a .fuel) (omega arith) (c .before .if2 .left) (c .if3 .taken), ring-here (a .next .now) (a .at) (a .caller) (a .fuel) (omega arith) (c .before .if2 .left) (c .if3 .taken))
+follow-returns-3 t c = let a = c .before .before .before .args in (links-here (a .next .now) (a .at) (a .caller) (a .fuel) (omega arith) (c .before .if2 .left) (c .if3 .taken), ring-here (a .next .now) (a .at) (a .caller) (a .fuel) (omega arith) (c .before .if2 .left) (c .if3 .taken), omega arith)
 
 follow-element-copy-out-follow : (t : ℕ) → follow-lts.Need-element-copy-out-follow (
   follow-below t,
@@ -51,9 +50,7 @@ follow-follow-requires t c κs = search needs
 
 follow-add-f :
     (t : ℕ) → follow-lts.Need-add-f (follow-below t, follow.Post) (follow-at t) follow.Post
-follow-add-f t c =
-    let a = c .before .before .before .before .before .before .args in
-    omega (arith, c .before .follow .ensures .0, links-le (a .next .now) (getD (a .next .now) (a .at) 0) (a .caller) (a .fuel - 1))
+follow-add-f t c = omega (arith, c .before .follow .ensures .2)
 
 follow-returns-4 :
     (t : ℕ) → follow-lts.Need-returns-4 (follow-below t, follow.Post) (follow-at t) follow.Post
@@ -63,6 +60,7 @@ follow-returns-4 t c =
     let n = c .before .before .before .if3 .left in (
       omega (arith, c .before .follow .ensures .0, links-on (a .next .now) (a .at) (a .caller) (a .fuel) (omega arith) i n),
       c .before .follow .ensures .1 ∙ sym (ring-on (a .next .now) (a .at) (a .caller) (a .fuel) (omega arith) i n),
+      omega (arith, c .before .follow .ensures .2),
     )
 
 pub +follow-spec : {M : Type 1} → statement M

@@ -7,13 +7,13 @@ use Prim.Native.Nat.{_-_, _≤_, min}
 use lib.ListN.{getD}
 use borrow.Author.Tests.{eq-eqb, ne-eqb}
 use Rattle.lists.specs.Test.{allb}
-use Rattle.rules.specs.Sizes.{maxTasks}
+use Rattle.rules.specs.Sizes.{taskPlaces}
 use Rattle.walks.proofs.Laws.{all-none, all-step, all-done, all-fails, sameAt}
 use Rattle.walks.proofs.agree.Statement.{statement}
 use Rattle.walks.proofs.agree.Tie as tie
 
 abbrev Inv-loop : tie.InvT-loop
-Inv-loop n a b k₀ k = (k ≤ n) × (k ≤ maxTasks) × (true ≡ allb k (sameAt a b))
+Inv-loop n a b k₀ k = (k ≤ n) × (k ≤ taskPlaces) × (true ≡ allb k (sameAt a b))
 
 abbrev μ-loop : tie.MeasureT-loop
 μ-loop n a b k₀ k = n - k
@@ -27,7 +27,7 @@ cast-i c = search needs
 returns : tie.Need-returns Inv-loop μ-loop
 returns c = let a = c .before .before .before .args in
     let s = c .before .before .loop in
-    all-done (sameAt (a .t1) (a .t2)) (s .k) (min (a .n) maxTasks) (omega arith) (s .inv .2)
+    all-done (sameAt (a .t1) (a .t2)) (s .k) (min (a .n) taskPlaces) (omega arith) (s .inv .2)
 
 array-read-if2 : tie.Need-array-read-if2 Inv-loop μ-loop
 array-read-if2 c = search needs
@@ -38,7 +38,7 @@ array-read-if2-2 c = search needs
 returns-2 : tie.Need-returns-2 Inv-loop μ-loop
 returns-2 c = let a = c .before .before .before .before .args in
     let s = c .before .before .before .loop in
-    all-fails (sameAt (a .t1) (a .t2)) (s .k) (min (a .n) maxTasks) (omega arith) (sym (ne-eqb (getD (a .t1) (s .k) 0) (getD (a .t2) (s .k) 0) (c .if2 .taken)))
+    all-fails (sameAt (a .t1) (a .t2)) (s .k) (min (a .n) taskPlaces) (omega arith) (sym (ne-eqb (getD (a .t1) (s .k) 0) (getD (a .t2) (s .k) 0) (c .if2 .taken)))
 
 add-k : tie.Need-add-k Inv-loop μ-loop
 add-k c = search needs
@@ -57,7 +57,7 @@ loop-again c = let a = c .before .before .before .before .args in
 returns-3 : tie.Need-returns-3 Inv-loop μ-loop
 returns-3 c = let a = c .before .before .args in
     let s = c .before .loop in
-    all-done (sameAt (a .t1) (a .t2)) (s .k) (min (a .n) maxTasks) (omega arith) (s .inv .2)
+    all-done (sameAt (a .t1) (a .t2)) (s .k) (min (a .n) taskPlaces) (omega arith) (s .inv .2)
 
 pub agree-spec : {M : Type 1} → statement M
 agree-spec =

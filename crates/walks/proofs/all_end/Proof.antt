@@ -6,13 +6,13 @@ use native.Mathlib.Omega.{arith}
 use Prim.Native.Nat.{_-_, _≤_, min}
 use borrow.Author.Tests.{not-true, not-false}
 use Rattle.lists.specs.Test.{allb}
-use Rattle.rules.specs.Sizes.{maxTasks}
+use Rattle.rules.specs.Sizes.{taskPlaces}
 use Rattle.walks.proofs.Laws.{all-none, all-step, all-done, all-fails, endsAfter, ends-read}
 use Rattle.walks.proofs.all_end.Statement.{statement}
 use Rattle.walks.proofs.all_end.Tie as tie
 
 abbrev Inv-loop : tie.InvT-loop
-Inv-loop next n t₀ t = (t ≤ n) × (t ≤ maxTasks) × (true ≡ allb t (endsAfter next n))
+Inv-loop next n t₀ t = (t ≤ n) × (t ≤ taskPlaces) × (true ≡ allb t (endsAfter next n))
 
 abbrev μ-loop : tie.MeasureT-loop
 μ-loop next n t₀ t = n - t
@@ -26,7 +26,7 @@ cast-i c = search needs
 returns : tie.Need-returns Inv-loop μ-loop
 returns c = let a = c .before .before .before .args in
     let s = c .before .before .loop in
-    all-done (endsAfter (a .next .now) (a .n)) (s .t) (min (a .n) maxTasks) (omega arith) (s .inv .2)
+    all-done (endsAfter (a .next .now) (a .n)) (s .t) (min (a .n) taskPlaces) (omega arith) (s .inv .2)
 
 element-copy-out-ends : tie.Need-element-copy-out-ends Inv-loop μ-loop
 element-copy-out-ends c = search needs
@@ -37,7 +37,7 @@ ends-requires c κs = search needs
 returns-2 : tie.Need-returns-2 Inv-loop μ-loop
 returns-2 c = let a = c .before .before .before .before .before .before .args in
     let s = c .before .before .before .before .before .loop in
-    all-fails (endsAfter (a .next .now) (a .n)) (s .t) (min (a .n) maxTasks) (omega arith)
+    all-fails (endsAfter (a .next .now) (a .n)) (s .t) (min (a .n) taskPlaces) (omega arith)
     (sym (not-true (c .before .ends .result) (c .if2 .taken)) ∙ ends-read (a .next .now) (a .n) (s .t) (c .before .ends .result) (omega arith) (c .before .ends .ensures))
 
 add-t : tie.Need-add-t Inv-loop μ-loop
@@ -58,7 +58,7 @@ loop-again c = let a = c .before .before .before .before .before .before .args i
 returns-3 : tie.Need-returns-3 Inv-loop μ-loop
 returns-3 c = let a = c .before .before .args in
     let s = c .before .loop in
-    all-done (endsAfter (a .next .now) (a .n)) (s .t) (min (a .n) maxTasks) (omega arith) (s .inv .2)
+    all-done (endsAfter (a .next .now) (a .n)) (s .t) (min (a .n) taskPlaces) (omega arith) (s .inv .2)
 
 pub all-end-spec : {M : Type 1} → statement M
 all-end-spec =

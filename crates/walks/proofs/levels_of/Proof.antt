@@ -5,13 +5,13 @@ use mathlib.Core.Logic.{inl, inr}
 use native.Mathlib.Omega.{arith}
 use Prim.Native.Nat.{_-_, _≤_, min}
 use Rattle.walks.specs.Walk.{raised}
-use Rattle.rules.specs.Sizes.{maxTasks}
+use Rattle.rules.specs.Sizes.{taskPlaces}
 use Rattle.walks.proofs.Laws.{raised-none, raised-step, raised-alone, raised-done}
 use Rattle.walks.proofs.levels_of.Statement.{statement}
 use Rattle.walks.proofs.levels_of.Tie as tie
 
 abbrev Inv-loop : tie.InvT-loop
-Inv-loop next n own l₀ j₀ l j = (j ≤ n) × (j ≤ maxTasks) × (l ≡ raised own next n j)
+Inv-loop next n own l₀ j₀ l j = (j ≤ n) × (j ≤ taskPlaces) × (l ≡ raised own next n j)
 
 abbrev μ-loop : tie.MeasureT-loop
 μ-loop next n own l₀ j₀ l j = n - j
@@ -25,7 +25,7 @@ cast-i c = search needs
 returns : tie.Need-returns Inv-loop μ-loop
 returns c = let a = c .before .before .before .args in
     let s = c .before .before .loop in
-    raised-done (a .t1) (a .next .now) (s .l) (a .n) (s .j) (min (a .n) maxTasks) (omega arith) (s .inv .2)
+    raised-done (a .t1) (a .next .now) (s .l) (a .n) (s .j) (min (a .n) taskPlaces) (omega arith) (s .inv .2)
 
 element-copy-out-to : tie.Need-element-copy-out-to Inv-loop μ-loop
 element-copy-out-to c = search needs
@@ -56,7 +56,7 @@ loop-again c = let a = c .before .before .before .before .before .args in
 returns-2 : tie.Need-returns-2 Inv-loop μ-loop
 returns-2 c = let a = c .before .before .args in
     let s = c .before .loop in
-    raised-done (a .t1) (a .next .now) (s .l) (a .n) (s .j) (min (a .n) maxTasks) (omega arith) (s .inv .2)
+    raised-done (a .t1) (a .next .now) (s .l) (a .n) (s .j) (min (a .n) taskPlaces) (omega arith) (s .inv .2)
 
 pub levels-of-spec : {M : Type 1} → statement M
 levels-of-spec =

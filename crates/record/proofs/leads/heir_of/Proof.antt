@@ -4,7 +4,7 @@ use borrow.Author.Tests.{eq-eqb, ne-eqb}
 use mathlib.Core.Path.{_≡_}
 use native.Mathlib.Omega.{arith}
 use lib.ListN.{length}
-use Rattle.lists.specs.FillLaws.{read-any}
+use Rattle.lists.specs.TableLaws.{read-any}
 use Rattle.rules.specs.Sizes.{maxMutexes}
 use Rattle.task_lists.specs.TaskList.{noId}
 use Rattle.record.proofs.leads.heir_of.Statement.{statement}

@@ -4,20 +4,20 @@ use mathlib.Core.Path.{_≡_}
 use Prim.Native.Nat.{_-_, _≤_}
 use native.Mathlib.Omega.{arith}
 use Rattle.lists.specs.FillLaws.{fill-done, fill-more, fill-none, soFar}
-use Rattle.rules.specs.Sizes.{maxTasks}
+use Rattle.rules.specs.Sizes.{taskPlaces}
 use Rattle.task_lists.specs.TaskList.{noId}
 use Rattle.record.specs.Reads.{leadsAt}
 use Rattle.record.proofs.leads.leads_of.Statement.{statement}
 use Rattle.record.proofs.leads.leads_of.Tie as tie
 
 abbrev Inv-loop : tie.InvT-loop
-Inv-loop mutexes t a₀ i₀ a i = (i ≤ maxTasks) × (a ≡ soFar maxTasks (leadsAt t mutexes) noId i)
+Inv-loop mutexes t a₀ i₀ a i = (i ≤ taskPlaces) × (a ≡ soFar taskPlaces (leadsAt t mutexes) noId i)
 
 abbrev μ-loop : tie.MeasureT-loop
-μ-loop mutexes t a₀ i₀ a i = maxTasks - i
+μ-loop mutexes t a₀ i₀ a i = taskPlaces - i
 
 loop-holds : tie.Need-loop-holds Inv-loop μ-loop
-loop-holds c = let a = c .args in (search needs, fill-none maxTasks (leadsAt (a .t1) (a .mutexes)) noId)
+loop-holds c = let a = c .args in (search needs, fill-none taskPlaces (leadsAt (a .t1) (a .mutexes)) noId)
 
 element-copy-out-led-by : tie.Need-element-copy-out-led-by Inv-loop μ-loop
 element-copy-out-led-by c = search needs
@@ -41,10 +41,10 @@ loop-again : tie.Need-loop-again Inv-loop μ-loop
 loop-again c =
     let a = c .before .before .before .before .before .args in
     let l = c .before .before .before .before .loop in
-    (search needs, fill-more maxTasks (leadsAt (a .t1) (a .mutexes)) noId (l .a) (l .i) _ (omega arith) (l .inv .1) (c .led-by .ensures))
+    (search needs, fill-more taskPlaces (leadsAt (a .t1) (a .mutexes)) noId (l .a) (l .i) _ (omega arith) (l .inv .1) (c .led-by .ensures))
 
 returns : tie.Need-returns Inv-loop μ-loop
-returns c = let a = c .before .before .args in let l = c .before .loop in fill-done maxTasks (leadsAt (a .t1) (a .mutexes)) noId (l .a) (l .i) (omega arith) (l .inv .1)
+returns c = let a = c .before .before .args in let l = c .before .loop in fill-done taskPlaces (leadsAt (a .t1) (a .mutexes)) noId (l .a) (l .i) (omega arith) (l .inv .1)
 
 pub leads-of-spec : {M : Type 1} → statement M
 leads-of-spec =

@@ -4,7 +4,7 @@ use borrow.Author.Tests.{eq-eqb, ne-eqb}
 use mathlib.Core.Path.{_≡_, sym, _∙_}
 use native.Mathlib.Omega.{arith}
 use lib.ListN.{length, List·getD-eq-default}
-use Rattle.lists.specs.FillLaws.{read-any}
+use Rattle.lists.specs.TableLaws.{read-any}
 use Rattle.rules.specs.Sizes.{maxMutexes}
 use Rattle.task_lists.specs.TaskList.{noId}
 use Rattle.record.specs.Reads.{ledBy}

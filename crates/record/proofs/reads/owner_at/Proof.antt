@@ -4,7 +4,7 @@ use mathlib.Core.Path.{_≡_, sym}
 use native.Mathlib.Omega.{arith}
 use lib.ListN.{List·getD-eq-default, length}
 use Rattle.task_lists.specs.TaskList.{noId}
-use Rattle.lists.specs.FillLaws.{read-any}
+use Rattle.lists.specs.TableLaws.{read-any}
 use Rattle.rules.specs.Sizes.{maxMutexes}
 use Rattle.record.proofs.reads.owner_at.Statement.{statement}
 use Rattle.record.proofs.reads.owner_at.Tie as tie

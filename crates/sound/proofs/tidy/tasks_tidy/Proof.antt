@@ -8,16 +8,16 @@ use borrow.Author.Tests.{le-leb, lt-leb}
 use Rattle.lists.specs.Test.{allb, _and_}
 use Rattle.walks.proofs.Laws.{all-none, all-step, all-done, all-fails}
 use Rattle.record.specs.SoundRecord.{taskPlaceb, tasksTidyb}
-use Rattle.rules.specs.Sizes.{maxTasks}
+use Rattle.rules.specs.Sizes.{taskPlaces}
 use Rattle.sound.proofs.SoundCode.{passed, failed}
 use Rattle.sound.proofs.tidy.tasks_tidy.Statement.{statement}
 use Rattle.sound.proofs.tidy.tasks_tidy.Tie as tie
 
 abbrev Inv-loop : tie.InvT-loop
-Inv-loop t i₀ i = (i ≤ maxTasks) × (true ≡ allb i (taskPlaceb t))
+Inv-loop t i₀ i = (i ≤ taskPlaces) × (true ≡ allb i (taskPlaceb t))
 
 abbrev μ-loop : tie.MeasureT-loop
-μ-loop t i₀ i = maxTasks - i
+μ-loop t i₀ i = taskPlaces - i
 
 returns : tie.Need-returns Inv-loop μ-loop
 unfolding tasksTidyb _and_
@@ -31,7 +31,7 @@ task-place-requires c κs = search needs
 
 returns-2 : tie.Need-returns-2 Inv-loop μ-loop
 unfolding tasksTidyb _and_
-returns-2 c = rw (le-leb _ _ (c .before .before .before .before .if1 .left)) (all-fails (taskPlaceb (c .before .before .before .before .before .before .args .t)) (c .before .before .before .loop .i) maxTasks (omega arith) (sym (failed (c .before .task-place .ensures) (c .if2 .taken))))
+returns-2 c = rw (le-leb _ _ (c .before .before .before .before .if1 .left)) (all-fails (taskPlaceb (c .before .before .before .before .before .before .args .t)) (c .before .before .before .loop .i) taskPlaces (omega arith) (sym (failed (c .before .task-place .ensures) (c .if2 .taken))))
 
 add-i : tie.Need-add-i Inv-loop μ-loop
 add-i c = search needs
@@ -44,7 +44,7 @@ loop-again c = (search needs, all-step (taskPlaceb (c .before .before .before .b
 
 returns-3 : tie.Need-returns-3 Inv-loop μ-loop
 unfolding tasksTidyb _and_
-returns-3 c = rw (le-leb _ _ (c .before .before .if1 .left)) (all-done (taskPlaceb (c .before .before .before .before .args .t)) (c .before .loop .i) maxTasks (omega arith) (c .before .loop .inv .1))
+returns-3 c = rw (le-leb _ _ (c .before .before .if1 .left)) (all-done (taskPlaceb (c .before .before .before .before .args .t)) (c .before .loop .i) taskPlaces (omega arith) (c .before .loop .inv .1))
 
 pub tasks-tidy-spec : {M : Type 1} → statement M
 tasks-tidy-spec =

@@ -5,26 +5,26 @@ use Rattle.steps.specs.Machine.{calledBy, freeStep}
 use Rattle.steps.proofs.plain.free.Statement.{statement}
 use Rattle.steps.proofs.plain.free.Tie as tie
 
-refused-requires : tie.Need-refused-requires
-refused-requires c κs = search needs
+answer-requires : tie.Need-answer-requires
+answer-requires c κs = search needs
 
 returns : tie.Need-returns
 unfolding freeStep calledBy
-returns c = simp (c .refused .ensures, eq-eqb _ _ (c .before .if1 .taken))
+returns c = simp (c .answer .ensures, eq-eqb _ _ (c .before .if1 .taken))
 
-refused-requires-2 : tie.Need-refused-requires-2
-refused-requires-2 c κs = search needs
+answer-requires-2 : tie.Need-answer-requires-2
+answer-requires-2 c κs = search needs
 
 returns-2 : tie.Need-returns-2
 unfolding freeStep calledBy
-returns-2 c = simp (c .refused2 .ensures, eq-eqb _ _ (c .before .if2 .taken), ne-eqb _ _ (c .before .before .before .if1 .left))
+returns-2 c = simp (c .answer2 .ensures, eq-eqb _ _ (c .before .if2 .taken), ne-eqb _ _ (c .before .before .before .if1 .left))
 
-refused-requires-3 : tie.Need-refused-requires-3
-refused-requires-3 c κs = search needs
+answer-requires-3 : tie.Need-answer-requires-3
+answer-requires-3 c κs = search needs
 
 returns-3 : tie.Need-returns-3
 unfolding freeStep calledBy
-returns-3 c = simp (c .refused3 .ensures, eq-eqb _ _ (c .before .if3 .taken), ne-eqb _ _ (c .before .before .before .if2 .left), ne-eqb _ _ (c .before .before .before .before .before .if1 .left))
+returns-3 c = simp (c .answer3 .ensures, eq-eqb _ _ (c .before .if3 .taken), ne-eqb _ _ (c .before .before .before .if2 .left), ne-eqb _ _ (c .before .before .before .before .before .if1 .left))
 
 sub-s : tie.Need-sub-s
 sub-s c = search needs
@@ -32,24 +32,24 @@ sub-s c = search needs
 dispatch-requires : tie.Need-dispatch-requires
 dispatch-requires c κs = search needs
 
-accepted-requires : tie.Need-accepted-requires
-accepted-requires c κs = search needs
+answer-requires-4 : tie.Need-answer-requires-4
+answer-requires-4 c κs = search needs
 
 returns-4 : tie.Need-returns-4
 unfolding freeStep calledBy
-returns-4 c = simp (c .accepted .ensures, c .before .dispatch .ensures, ne-eqb _ _ (c .before .before .before .if3 .left), ne-eqb _ _ (c .before .before .before .before .before .if2 .left), ne-eqb _ _ (c .before .before .before .before .before .before .before .if1 .left))
+returns-4 c = simp (c .answer4 .ensures, c .before .dispatch .ensures, ne-eqb _ _ (c .before .before .before .if3 .left), ne-eqb _ _ (c .before .before .before .before .before .if2 .left), ne-eqb _ _ (c .before .before .before .before .before .before .before .if1 .left))
 
 pub free-spec : {M : Type 1} → statement M
 free-spec =
     tie.close
     (tie.spec
-    refused-requires
+    answer-requires
     returns
-    refused-requires-2
+    answer-requires-2
     returns-2
-    refused-requires-3
+    answer-requires-3
     returns-3
     sub-s
     dispatch-requires
-    accepted-requires
+    answer-requires-4
     returns-4)

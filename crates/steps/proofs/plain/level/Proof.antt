@@ -8,12 +8,12 @@ use Rattle.steps.proofs.plain.level.Tie as tie
 cast-if1 : tie.Need-cast-if1
 cast-if1 c = search needs
 
-refused-requires : tie.Need-refused-requires
-refused-requires c κs = search needs
+answer-requires : tie.Need-answer-requires
+answer-requires c κs = search needs
 
 returns : tie.Need-returns
 unfolding levelStep
-returns c = simp (c .refused .ensures, le-leb _ _ (c .before .if1 .taken))
+returns c = simp (c .answer .ensures, le-leb _ _ (c .before .if1 .taken))
 
 cast-key-of : tie.Need-cast-key-of
 cast-key-of c = search needs
@@ -21,25 +21,25 @@ cast-key-of c = search needs
 key-of-requires : tie.Need-key-of-requires
 key-of-requires c κs = search needs
 
-cast-accepted : tie.Need-cast-accepted
-cast-accepted c = search needs
+cast-answer : tie.Need-cast-answer
+cast-answer c = search needs
 
-accepted-requires : tie.Need-accepted-requires
-accepted-requires c κs = search needs
+answer-requires-2 : tie.Need-answer-requires-2
+answer-requires-2 c κs = search needs
 
 returns-2 : tie.Need-returns-2
 unfolding levelStep
-returns-2 c = simp (c .accepted .ensures, ← c .before .key-of .ensures, lt-leb _ _ (c .before .before .before .before .if1 .left))
+returns-2 c = simp (c .answer2 .ensures, ← c .before .key-of .ensures, lt-leb _ _ (c .before .before .before .before .if1 .left))
 
 pub level-spec : {M : Type 1} → statement M
 level-spec =
     tie.close
     (tie.spec
     cast-if1
-    refused-requires
+    answer-requires
     returns
     cast-key-of
     key-of-requires
-    cast-accepted
-    accepted-requires
+    cast-answer
+    answer-requires-2
     returns-2)

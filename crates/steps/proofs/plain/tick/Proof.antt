@@ -5,12 +5,12 @@ use Rattle.steps.specs.Machine.{tickStep}
 use Rattle.steps.proofs.plain.tick.Statement.{statement}
 use Rattle.steps.proofs.plain.tick.Tie as tie
 
-refused-requires : tie.Need-refused-requires
-refused-requires c κs = search needs
+answer-requires : tie.Need-answer-requires
+answer-requires c κs = search needs
 
 returns : tie.Need-returns
 unfolding tickStep
-returns c = simp (c .refused .ensures, eq-eqb _ _ (c .before .if1 .taken))
+returns c = simp (c .answer .ensures, eq-eqb _ _ (c .before .if1 .taken))
 
 due-at-requires : tie.Need-due-at-requires
 due-at-requires c κs = search needs
@@ -30,25 +30,25 @@ settle-requires c κs = search needs
 dispatch-requires : tie.Need-dispatch-requires
 dispatch-requires c κs = search needs
 
-accepted-requires : tie.Need-accepted-requires
-accepted-requires c κs = search needs
+answer-requires-2 : tie.Need-answer-requires-2
+answer-requires-2 c κs = search needs
 
 returns-2 : tie.Need-returns-2
 unfolding tickStep
-returns-2 c = simp (c .accepted .ensures, c .before .dispatch .ensures, c .before .before .settle .ensures, c .before .before .before .wake .ensures, ← c .before .before .before .before .before .any-flag .ensures, ← c .before .before .before .before .before .before .due-flags .ensures, ← c .before .before .before .before .before .before .before .due-at .ensures, c .before .before .before .before .if2 .taken, ne-eqb _ _ (c .before .before .before .before .before .before .before .before .if1 .left))
+returns-2 c = simp (c .answer2 .ensures, c .before .dispatch .ensures, c .before .before .settle .ensures, c .before .before .before .wake .ensures, ← c .before .before .before .before .before .any-flag .ensures, ← c .before .before .before .before .before .before .due-flags .ensures, ← c .before .before .before .before .before .before .before .due-at .ensures, c .before .before .before .before .if2 .taken, ne-eqb _ _ (c .before .before .before .before .before .before .before .before .if1 .left))
 
-accepted-requires-2 : tie.Need-accepted-requires-2
-accepted-requires-2 c κs = search needs
+answer-requires-3 : tie.Need-answer-requires-3
+answer-requires-3 c κs = search needs
 
 returns-3 : tie.Need-returns-3
 unfolding tickStep
-returns-3 c = simp (c .accepted2 .ensures, ← c .before .before .any-flag .ensures, ← c .before .before .before .due-flags .ensures, ← c .before .before .before .before .due-at .ensures, c .before .if2 .left, ne-eqb _ _ (c .before .before .before .before .before .if1 .left))
+returns-3 c = simp (c .answer3 .ensures, ← c .before .before .any-flag .ensures, ← c .before .before .before .due-flags .ensures, ← c .before .before .before .before .due-at .ensures, c .before .if2 .left, ne-eqb _ _ (c .before .before .before .before .before .if1 .left))
 
 pub tick-spec : {M : Type 1} → statement M
 tick-spec =
     tie.close
     (tie.spec
-    refused-requires
+    answer-requires
     returns
     due-at-requires
     due-flags-requires
@@ -56,7 +56,7 @@ tick-spec =
     wake-requires
     settle-requires
     dispatch-requires
-    accepted-requires
+    answer-requires-2
     returns-2
-    accepted-requires-2
+    answer-requires-3
     returns-3)

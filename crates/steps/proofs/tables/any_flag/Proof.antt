@@ -4,16 +4,16 @@ use mathlib.Core.Bool.{true}
 use mathlib.Core.Path.{_≡_}
 use Prim.Native.Nat.{_-_, _≤_}
 use native.Mathlib.Omega.{arith}
-use Rattle.rules.specs.Sizes.{maxTasks}
+use Rattle.rules.specs.Sizes.{taskPlaces}
 use Rattle.steps.proofs.Laws.{flag-done, flag-here, flag-more, flag-none, noFlag}
 use Rattle.steps.proofs.tables.any_flag.Statement.{statement}
 use Rattle.steps.proofs.tables.any_flag.Tie as tie
 
 abbrev Inv-loop : tie.InvT-loop
-Inv-loop f i₀ i = (i ≤ maxTasks) × (true ≡ noFlag f i)
+Inv-loop f i₀ i = (i ≤ taskPlaces) × (true ≡ noFlag f i)
 
 abbrev μ-loop : tie.MeasureT-loop
-μ-loop f i₀ i = maxTasks - i
+μ-loop f i₀ i = taskPlaces - i
 
 loop-holds : tie.Need-loop-holds Inv-loop μ-loop
 loop-holds c = (search needs, flag-none (c .args .t1))

@@ -4,16 +4,16 @@ use mathlib.Core.Path.{_≡_}
 use Prim.Native.Nat.{_-_, _≤_}
 use native.Mathlib.Omega.{arith}
 use Rattle.steps.specs.Machine.{endedWhere}
-use Rattle.rules.specs.Sizes.{maxTasks}
+use Rattle.rules.specs.Sizes.{taskPlaces}
 use Rattle.steps.proofs.Laws.{ended-more, ended-none}
 use Rattle.steps.proofs.tables.end_where.Statement.{statement}
 use Rattle.steps.proofs.tables.end_where.Tie as tie
 
 abbrev Inv-loop : tie.InvT-loop
-Inv-loop flags slept other r₀ i₀ r i = (i ≤ maxTasks) × (r ≡ endedWhere r₀ flags slept other i)
+Inv-loop flags slept other r₀ i₀ r i = (i ≤ taskPlaces) × (r ≡ endedWhere r₀ flags slept other i)
 
 abbrev μ-loop : tie.MeasureT-loop
-μ-loop flags slept other r₀ i₀ r i = maxTasks - i
+μ-loop flags slept other r₀ i₀ r i = taskPlaces - i
 
 loop-holds : tie.Need-loop-holds Inv-loop μ-loop
 loop-holds c = let a = c .args in (search needs, ended-none (a .t) (a .flags) (a .slept) (a .other))
@@ -31,7 +31,7 @@ loop-again : tie.Need-loop-again Inv-loop μ-loop
 loop-again c = let a = c .before .before .before .args in let l = c .before .before .loop in (search needs, ended-more (a .t) (a .flags) (a .slept) (a .other) (l .r) (c .end-if .result) (l .i) (l .inv .1) (c .end-if .ensures))
 
 returns : tie.Need-returns Inv-loop μ-loop
-returns c = let e : c .before .loop .i ≡ maxTasks = omega arith in rw e at (c .before .loop .inv .1)
+returns c = let e : c .before .loop .i ≡ taskPlaces = omega arith in rw e at (c .before .loop .inv .1)
 
 pub end-where-spec : {M : Type 1} → statement M
 end-where-spec =

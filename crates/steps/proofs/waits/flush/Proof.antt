@@ -5,22 +5,22 @@ use Rattle.steps.specs.Machine.{flushStep}
 use Rattle.steps.proofs.waits.flush.Statement.{statement}
 use Rattle.steps.proofs.waits.flush.Tie as tie
 
-refused-requires : tie.Need-refused-requires
-refused-requires c κs = search needs
+answer-requires : tie.Need-answer-requires
+answer-requires c κs = search needs
 
 returns : tie.Need-returns
 unfolding flushStep
-returns c = simp (c .refused .ensures, eq-eqb _ _ (c .before .if1 .taken))
+returns c = simp (c .answer .ensures, eq-eqb _ _ (c .before .if1 .taken))
 
 cast-if2 : tie.Need-cast-if2
 cast-if2 c = search needs
 
-refused-requires-2 : tie.Need-refused-requires-2
-refused-requires-2 c κs = search needs
+answer-requires-2 : tie.Need-answer-requires-2
+answer-requires-2 c κs = search needs
 
 returns-2 : tie.Need-returns-2
 unfolding flushStep
-returns-2 c = simp (c .refused2 .ensures, le-leb _ _ (c .before .if2 .taken), ne-eqb _ _ (c .before .before .before .if1 .left))
+returns-2 c = simp (c .answer2 .ensures, le-leb _ _ (c .before .if2 .taken), ne-eqb _ _ (c .before .before .before .if1 .left))
 
 cast-waiter-flags : tie.Need-cast-waiter-flags
 cast-waiter-flags c = search needs
@@ -37,26 +37,26 @@ line-up-requires c κs = search needs
 dispatch-requires : tie.Need-dispatch-requires
 dispatch-requires c κs = search needs
 
-accepted-requires : tie.Need-accepted-requires
-accepted-requires c κs = search needs
+answer-requires-3 : tie.Need-answer-requires-3
+answer-requires-3 c κs = search needs
 
 returns-3 : tie.Need-returns-3
 unfolding flushStep
-returns-3 c = simp (c .accepted .ensures, c .before .dispatch .ensures, c .before .before .line-up .ensures, c .before .before .before .wake .ensures, c .before .before .before .before .waiter-flags .ensures, lt-leb _ _ (c .before .before .before .before .before .if2 .left), ne-eqb _ _ (c .before .before .before .before .before .before .before .if1 .left))
+returns-3 c = simp (c .answer3 .ensures, c .before .dispatch .ensures, c .before .before .line-up .ensures, c .before .before .before .wake .ensures, c .before .before .before .before .waiter-flags .ensures, lt-leb _ _ (c .before .before .before .before .before .if2 .left), ne-eqb _ _ (c .before .before .before .before .before .before .before .if1 .left))
 
 pub flush-spec : {M : Type 1} → statement M
 flush-spec =
     tie.close
     (tie.spec
-    refused-requires
+    answer-requires
     returns
     cast-if2
-    refused-requires-2
+    answer-requires-2
     returns-2
     cast-waiter-flags
     waiter-flags-requires
     wake-requires
     line-up-requires
     dispatch-requires
-    accepted-requires
+    answer-requires-3
     returns-3)

@@ -8,12 +8,12 @@ use Rattle.steps.proofs.waits.lock_waits.Tie as tie
 wait-refusal-requires : tie.Need-wait-refusal-requires
 wait-refusal-requires c κs = search needs
 
-refused-requires : tie.Need-refused-requires
-refused-requires c κs = search needs
+answer-requires : tie.Need-answer-requires
+answer-requires c κs = search needs
 
 returns : tie.Need-returns
 unfolding lockWaits mayWait
-returns c = simp (c .refused .ensures, ← c .before .before .wait-refusal .ensures, ne-eqb _ _ (c .before .if1 .taken))
+returns c = simp (c .answer .ensures, ← c .before .before .wait-refusal .ensures, ne-eqb _ _ (c .before .if1 .taken))
 
 next-of-requires : tie.Need-next-of-requires
 next-of-requires c κs = search needs
@@ -24,15 +24,15 @@ owner-at-requires c κs = search needs
 follow-requires : tie.Need-follow-requires
 follow-requires c κs = search needs
 
-cast-refused : tie.Need-cast-refused
-cast-refused c = search needs
+cast-answer : tie.Need-cast-answer
+cast-answer c = search needs
 
-refused-requires-2 : tie.Need-refused-requires-2
-refused-requires-2 c κs = search needs
+answer-requires-2 : tie.Need-answer-requires-2
+answer-requires-2 c κs = search needs
 
 returns-2 : tie.Need-returns-2
 unfolding lockWaits mayWait
-returns-2 c = simp (c .refused2 .ensures, ← c .before .before .before .follow .ensures .0, ← c .before .before .before .follow .ensures .1, ← c .before .before .before .before .owner-at .ensures, ← c .before .before .before .before .before .before .next-of .ensures, c .before .before .if2 .taken, ← c .before .before .before .before .before .before .before .before .before .before .wait-refusal .ensures, eq-eqb _ _ (c .before .before .before .before .before .before .before .before .before .if1 .left))
+returns-2 c = simp (c .answer2 .ensures, ← c .before .before .before .follow .ensures .0, ← c .before .before .before .follow .ensures .1, ← c .before .before .before .before .owner-at .ensures, ← c .before .before .before .before .before .before .next-of .ensures, c .before .before .if2 .taken, ← c .before .before .before .before .before .before .before .before .before .before .wait-refusal .ensures, eq-eqb _ _ (c .before .before .before .before .before .before .before .before .before .if1 .left))
 
 block-requires : tie.Need-block-requires
 block-requires c κs = search needs
@@ -43,32 +43,32 @@ settle-requires c κs = search needs
 dispatch-requires : tie.Need-dispatch-requires
 dispatch-requires c κs = search needs
 
-cast-accepted : tie.Need-cast-accepted
-cast-accepted c = search needs
+cast-answer-2 : tie.Need-cast-answer-2
+cast-answer-2 c = search needs
 
-accepted-requires : tie.Need-accepted-requires
-accepted-requires c κs = search needs
+answer-requires-3 : tie.Need-answer-requires-3
+answer-requires-3 c κs = search needs
 
 returns-3 : tie.Need-returns-3
 unfolding lockWaits mayWait
-returns-3 c = simp (c .accepted .ensures, c .before .before .dispatch .ensures, c .before .before .before .settle .ensures, c .before .before .before .before .block .ensures, ← c .before .before .before .before .before .before .follow .ensures .0, ← c .before .before .before .before .before .before .follow .ensures .1, ← c .before .before .before .before .before .before .before .owner-at .ensures, ← c .before .before .before .before .before .before .before .before .before .next-of .ensures, c .before .before .before .before .before .if2 .left, ← c .before .before .before .before .before .before .before .before .before .before .before .before .before .wait-refusal .ensures, eq-eqb _ _ (c .before .before .before .before .before .before .before .before .before .before .before .before .if1 .left))
+returns-3 c = simp (c .answer3 .ensures, c .before .before .dispatch .ensures, c .before .before .before .settle .ensures, c .before .before .before .before .block .ensures, ← c .before .before .before .before .before .before .follow .ensures .0, ← c .before .before .before .before .before .before .follow .ensures .1, ← c .before .before .before .before .before .before .before .owner-at .ensures, ← c .before .before .before .before .before .before .before .before .before .next-of .ensures, c .before .before .before .before .before .if2 .left, ← c .before .before .before .before .before .before .before .before .before .before .before .before .before .wait-refusal .ensures, eq-eqb _ _ (c .before .before .before .before .before .before .before .before .before .before .before .before .if1 .left))
 
 pub lock-waits-spec : {M : Type 1} → statement M
 lock-waits-spec =
     tie.close
     (tie.spec
     wait-refusal-requires
-    refused-requires
+    answer-requires
     returns
     next-of-requires
     owner-at-requires
     follow-requires
-    cast-refused
-    refused-requires-2
+    cast-answer
+    answer-requires-2
     returns-2
     block-requires
     settle-requires
     dispatch-requires
-    cast-accepted
-    accepted-requires
+    cast-answer-2
+    answer-requires-3
     returns-3)

@@ -5,22 +5,22 @@ use Rattle.steps.specs.Machine.{postStep}
 use Rattle.steps.proofs.waits.post.Statement.{statement}
 use Rattle.steps.proofs.waits.post.Tie as tie
 
-refused-requires : tie.Need-refused-requires
-refused-requires c κs = search needs
+answer-requires : tie.Need-answer-requires
+answer-requires c κs = search needs
 
 returns : tie.Need-returns
 unfolding postStep
-returns c = simp (c .refused .ensures, eq-eqb _ _ (c .before .if1 .taken))
+returns c = simp (c .answer .ensures, eq-eqb _ _ (c .before .if1 .taken))
 
 cast-if2 : tie.Need-cast-if2
 cast-if2 c = search needs
 
-refused-requires-2 : tie.Need-refused-requires-2
-refused-requires-2 c κs = search needs
+answer-requires-2 : tie.Need-answer-requires-2
+answer-requires-2 c κs = search needs
 
 returns-2 : tie.Need-returns-2
 unfolding postStep
-returns-2 c = simp (c .refused2 .ensures, le-leb _ _ (c .before .if2 .taken), ne-eqb _ _ (c .before .before .before .if1 .left))
+returns-2 c = simp (c .answer2 .ensures, le-leb _ _ (c .before .if2 .taken), ne-eqb _ _ (c .before .before .before .if1 .left))
 
 cast-j : tie.Need-cast-j
 cast-j c = search needs
@@ -39,10 +39,10 @@ pub post-spec : {M : Type 1} → statement M
 post-spec =
     tie.close
     (tie.spec
-    refused-requires
+    answer-requires
     returns
     cast-if2
-    refused-requires-2
+    answer-requires-2
     returns-2
     cast-j
     best-waiter-requires

@@ -1,0 +1,13 @@
+-- `record::answers::answer` meets its contract.
+use borrow.Author.Tests.{le-leb, lt-leb}
+use Rattle.record.proofs.answers.answer.Statement.{statement}
+use Rattle.record.proofs.answers.answer.Tie as tie
+
+returns : tie.Need-returns
+returns c = simp (le-leb _ _ (c .if1 .taken))
+
+returns-2 : tie.Need-returns-2
+returns-2 c = simp (lt-leb _ _ (c .if1 .left))
+
+pub answer-spec : {M : Type 1} → statement M
+answer-spec = tie.close (tie.spec returns returns-2)
