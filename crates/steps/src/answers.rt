@@ -1,6 +1,6 @@
 // What a step hands back: the record, and its answer with the running task of that record.
 ghost use mathlib.Core.Path.{_≡_};
-ghost use Rattle.steps.specs.Machine.{answerIn};
+ghost use Rattle.machine.specs.Machine.{answerIn};
 use record::Out;
 use record::State;
 use record::answers;

@@ -1,13 +1,11 @@
 // What each step does to a record.
 mod answers;
-mod objects;
 mod plain;
-mod settle;
-mod tables;
+mod refusals;
 mod waits;
 
 ghost use mathlib.Core.Path.{_≡_};
-ghost use Rattle.steps.specs.Machine.{machineStep};
+ghost use Rattle.machine.specs.Machine.{machineStep};
 use record::Out;
 use record::Request;
 use record::State;

@@ -1,10 +1,11 @@
 // Creation, start, yield, hold and free, tick, level, outcome: the refusals in the order of the table, then what the step does.
 ghost use mathlib.Core.Path.{_≡_};
-ghost use Rattle.steps.specs.Machine.{taskStep, mutexStep, semStep, startStep, yieldStep, holdStep, freeStep, tickStep, levelStep, outcomeStep};
+ghost use Rattle.machine.specs.Machine.{taskStep, mutexStep, semStep, startStep, yieldStep, holdStep, freeStep, tickStep, levelStep, outcomeStep};
 use crate::answers;
-use crate::objects;
-use crate::settle;
-use crate::tables;
+use crate::refusals;
+use changes::objects;
+use changes::settle;
+use changes::tables;
 use record::GRANTED;
 use record::KINDS;
 use record::LEVELS;
@@ -92,13 +93,11 @@ pub fn start(mut s: State) -> Out
 pub fn yield_now(mut s: State) -> Out
     ensures { λ r. ⌜ r ≡ yieldStep s ⌝ }
 {
-    if s.started == 0 {
-        return answers::answer(s, 4, 0);
+    let not_now = refusals::of_caller(s.started, s.running);
+    if not_now != 0 {
+        return answers::answer(s, not_now, 0);
     }
     let id = s.running;
-    if id == NONE {
-        return answers::answer(s, 5, 0);
-    }
     if s.hold != 0 {
         return answers::answer(s, 11, 0);
     }
@@ -115,11 +114,9 @@ pub fn yield_now(mut s: State) -> Out
 pub fn hold(mut s: State) -> Out
     ensures { λ r. ⌜ r ≡ holdStep s ⌝ }
 {
-    if s.started == 0 {
-        return answers::answer(s, 4, 0);
-    }
-    if s.running == NONE {
-        return answers::answer(s, 5, 0);
+    let not_now = refusals::of_caller(s.started, s.running);
+    if not_now != 0 {
+        return answers::answer(s, not_now, 0);
     }
     if MAX_HOLD <= s.hold {
         return answers::answer(s, 13, 0);
@@ -131,11 +128,9 @@ pub fn hold(mut s: State) -> Out
 pub fn free(mut s: State) -> Out
     ensures { λ r. ⌜ r ≡ freeStep s ⌝ }
 {
-    if s.started == 0 {
-        return answers::answer(s, 4, 0);
-    }
-    if s.running == NONE {
-        return answers::answer(s, 5, 0);
+    let not_now = refusals::of_caller(s.started, s.running);
+    if not_now != 0 {
+        return answers::answer(s, not_now, 0);
     }
     if s.hold == 0 {
         return answers::answer(s, 13, 0);
@@ -175,14 +170,14 @@ pub fn level(s: State, i: u32) -> Out
     answers::answer(s, 0, v as u32)
 }
 
-pub fn outcome(s: State, i: u32) -> Out
-    ensures { λ r. ⌜ r ≡ outcomeStep s i ⌝ }
+pub fn outcome(s: State, task: u32) -> Out
+    ensures { λ r. ⌜ r ≡ outcomeStep s task ⌝ }
 {
-    if s.tasks.n as u32 <= i {
+    if s.tasks.n as u32 <= task {
         return answers::answer(s, 6, 0);
     }
     let t = s.tasks;
     let outcomes = t.outcome;
-    let v = task_lists::key_of(outcomes, i as u8);
+    let v = task_lists::key_of(outcomes, task as u8);
     answers::answer(s, 0, v as u32)
 }

@@ -1,13 +1,12 @@
 // The steps on mutexes and semaphores, and sleep: the refusals in the order of the table, then what the step does.
 ghost use mathlib.Core.Path.{_≡_};
-ghost use Prim.Native.Nat.{_<_};
-ghost use Rattle.steps.specs.Machine.{isTime, waitRefusal, lockStep, lockWaits, passed, unlockStep, pendStep, creditStep, postStep, flushStep, sleepStep};
+ghost use Rattle.machine.specs.Machine.{lockStep, lockWaits, passed, unlockStep, pendStep, creditStep, postStep, flushStep, sleepStep};
 use crate::answers;
-use crate::objects;
-use crate::settle;
-use crate::tables;
+use crate::refusals;
+use changes::objects;
+use changes::settle;
+use changes::tables;
 use record::FLUSHED;
-use record::FOREVER;
 use record::GRANTED;
 use record::MAX_TICKS;
 use record::NONE;
@@ -20,36 +19,11 @@ use record::TASKS;
 use record::leads;
 use record::reads;
 
-// "0 (don't wait), 1 to 2147483647 ticks, or 4294967295 (forever)"
-fn is_time(t: u32) -> bool
-    ensures { λ r. ⌜ r ≡ isTime t ⌝ }
-{
-    if t <= MAX_TICKS {
-        return true;
-    }
-    t == FOREVER
-}
-
-// Why a caller that would wait may not: 3 where its time is 0, else 11 while scheduling is held; 0 where it may.
-fn wait_refusal(hold: u8, time: u32) -> u8
-    ensures { λ r. ⌜ r ≡ waitRefusal hold time ⌝ }
-{
-    let at_once = time == 0;
-    let held = 0 < hold;
-    if at_once {
-        return 3;
-    }
-    if held {
-        return 11;
-    }
-    0
-}
-
 // A lock that meets a taken mutex: the caller waits, unless it may not.
 fn lock_waits(s: State, m: u8, time: u32) -> Out
     ensures { λ r. ⌜ r ≡ lockWaits s m time ⌝ }
 {
-    let no = wait_refusal(s.hold, time);
+    let no = refusals::of_wait(s.hold, time);
     if no != 0 {
         return answers::answer(s, no, 0);
     }
@@ -68,16 +42,14 @@ fn lock_waits(s: State, m: u8, time: u32) -> Out
 pub fn lock(mut s: State, m: u32, time: u32) -> Out
     ensures { λ r. ⌜ r ≡ lockStep s m time ⌝ }
 {
-    if s.started == 0 {
-        return answers::answer(s, 4, 0);
-    }
-    if s.running == NONE {
-        return answers::answer(s, 5, 0);
+    let not_now = refusals::of_caller(s.started, s.running);
+    if not_now != 0 {
+        return answers::answer(s, not_now, 0);
     }
     if s.mutexes.n as u32 <= m {
         return answers::answer(s, 6, 0);
     }
-    if !is_time(time) {
+    if !refusals::is_time(time) {
         return answers::answer(s, 7, 0);
     }
     let j = m as u8;
@@ -111,11 +83,9 @@ fn pass(mut s: State, m: u8, w: u8) -> State
 pub fn unlock(s: State, m: u32) -> Out
     ensures { λ r. ⌜ r ≡ unlockStep s m ⌝ }
 {
-    if s.started == 0 {
-        return answers::answer(s, 4, 0);
-    }
-    if s.running == NONE {
-        return answers::answer(s, 5, 0);
+    let not_now = refusals::of_caller(s.started, s.running);
+    if not_now != 0 {
+        return answers::answer(s, not_now, 0);
     }
     if s.mutexes.n as u32 <= m {
         return answers::answer(s, 6, 0);
@@ -136,16 +106,14 @@ pub fn unlock(s: State, m: u32) -> Out
 pub fn pend(mut s: State, k: u32, time: u32) -> Out
     ensures { λ r. ⌜ r ≡ pendStep s k time ⌝ }
 {
-    if s.started == 0 {
-        return answers::answer(s, 4, 0);
-    }
-    if s.running == NONE {
-        return answers::answer(s, 5, 0);
+    let not_now = refusals::of_caller(s.started, s.running);
+    if not_now != 0 {
+        return answers::answer(s, not_now, 0);
     }
     if s.semaphores.n as u32 <= k {
         return answers::answer(s, 6, 0);
     }
-    if !is_time(time) {
+    if !refusals::is_time(time) {
         return answers::answer(s, 7, 0);
     }
     let j = k as u8;
@@ -155,7 +123,7 @@ pub fn pend(mut s: State, k: u32, time: u32) -> Out
         s.semaphores = c;
         return answers::answer(s, 0, 0);
     }
-    let no = wait_refusal(s.hold, time);
+    let no = refusals::of_wait(s.hold, time);
     if no != 0 {
         return answers::answer(s, no, 0);
     }
@@ -219,11 +187,9 @@ pub fn flush(s: State, k: u32) -> Out
 pub fn sleep(s: State, time: u32) -> Out
     ensures { λ r. ⌜ r ≡ sleepStep s time ⌝ }
 {
-    if s.started == 0 {
-        return answers::answer(s, 4, 0);
-    }
-    if s.running == NONE {
-        return answers::answer(s, 5, 0);
+    let not_now = refusals::of_caller(s.started, s.running);
+    if not_now != 0 {
+        return answers::answer(s, not_now, 0);
     }
     if time == 0 {
         return answers::answer(s, 7, 0);

@@ -1,4 +1,4 @@
--- `close`: each return cites the tests that led there.
+-- `arrive::close`: each return cites the tests that led there.
 use borrow.Author.Needs.{needs}
 use mathlib.Core.Path.{sym, _∙_}
 use Prim.Native.Nat.{_≤_, _<_}

@@ -1,4 +1,4 @@
--- `feed`: the part of the line that arrived ends it, or is kept.
+-- `arrive::feed`: the part of the line that arrived ends it, or is kept.
 use borrow.Author.Needs.{needs}
 use mathlib.Core.Path.{sym}
 use Prim.Native.Nat.{_≤_, _<_}

@@ -1,4 +1,4 @@
--- `finish`: each return cites the tests that led there.
+-- `arrive::finish`: each return cites the tests that led there.
 use borrow.Author.Tests.{eq-eqb, ne-eqb, le-leb, lt-leb}
 use Rattle.arrive.specs.Feed.{lastFound}
 use Rattle.arrive.proofs.finish.Statement.{statement}

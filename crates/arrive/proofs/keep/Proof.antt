@@ -1,4 +1,4 @@
--- `keep`: the count follows the answer of the writing.
+-- `arrive::keep`: the count follows the answer of the writing.
 use borrow.Author.Needs.{needs}
 use mathlib.Core.Path.{sym, _∙_}
 use native.Mathlib.Omega.{arith}

@@ -1,4 +1,4 @@
--- `line`: each part is the one that the answer names.
+-- `arrive::line`: each part is the one that the answer names.
 use borrow.Author.Needs.{needs}
 use mathlib.Core.Path.{_≡_}
 use Prim.Native.Nat.{_-_}

@@ -1,4 +1,4 @@
--- `digits`: the digits passed and those of what is left are the digits of the whole.
+-- `decimal::digits`: the digits passed and those of what is left are the digits of the whole.
 use borrow.Author.Needs.{needs}
 use mathlib.Core.Path.{_≡_, refl}
 use Prim.Native.Nat.{suc, _≤_, _<_, _+_, _-_, _^_}

@@ -1,4 +1,4 @@
--- `parse`: the number so far, with the digits that are left, is the number of the whole.
+-- `decimal::parse`: the number so far, with the digits that are left, is the number of the whole.
 use borrow.Author.Needs.{needs}
 use mathlib.Core.Path.{_≡_, sym, _∙_}
 use Prim.Native.Nat.{_≤_, _<_, _-_}

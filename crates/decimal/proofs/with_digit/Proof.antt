@@ -1,4 +1,4 @@
--- `with_digit`: each return cites the tests that led there.
+-- `decimal::with_digit`: each return cites the tests that led there.
 use borrow.Author.Needs.{needs}
 use borrow.Author.Tests.{lt-ltb, le-ltb}
 use Rattle.decimal.specs.Parse.{withDigit}

@@ -1,4 +1,4 @@
--- `write`: the digits from place i on stand already, and what is left of v has the digits before them.
+-- `decimal::write`: the digits from place i on stand already, and what is left of v has the digits before them.
 use borrow.Author.Needs.{needs}
 use mathlib.Core.Path.{_≡_, refl, sym, ap, _∙_}
 use mathlib.Core.List.{List, _++_, append-nil}

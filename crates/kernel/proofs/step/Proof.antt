@@ -2,7 +2,7 @@
 use mathlib.Core.Path.{sym, _∙_}
 use Rattle.record.specs.StepRecord.{stays, stepOf}
 use Rattle.task_lists.specs.TaskList.{idOf}
-use Rattle.steps.specs.MachineLaws.{sound-step}
+use Rattle.machine.specs.MachineLaws.{sound-step}
 use borrow.Author.Needs.{needs}
 use Rattle.kernel.proofs.step.Statement.{statement}
 use Rattle.kernel.proofs.step.Tie as tie

@@ -1,4 +1,4 @@
--- `past`: the test is the definition's.
+-- `reader::past`: the test is the definition's.
 use mathlib.Core.Path.{refl}
 use Rattle.reader.proofs.past.Statement.{statement}
 use Rattle.reader.proofs.past.Tie as tie

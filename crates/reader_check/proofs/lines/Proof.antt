@@ -1,4 +1,4 @@
--- `lines`: the loop goes through the places below n.
+-- `reader_check::lines`: the loop goes through the places below n.
 use borrow.Author.Needs.{needs}
 use Prim.Native.Nat.{_≤_, _-_}
 use Rattle.reader_check.proofs.lines.Statement.{statement}

@@ -1,4 +1,4 @@
--- `places`: the loop goes through the places below 8.
+-- `reader_check::places`: the loop goes through the places below 8.
 use borrow.Author.Needs.{needs}
 use Prim.Native.Nat.{_≤_, _-_}
 use Rattle.reader_check.proofs.places.Statement.{statement}

@@ -1,7 +1,7 @@
--- `is_sound`: what the phrases answer is the definition, for a record whose types tell what they do.
+-- `sound::is_sound`: what the phrases answer is the definition, for a record whose types tell what they do.
 use mathlib.Core.Path.{_∙_}
 use Rattle.record.specs.GoodRecord.{Typed}
-use Rattle.sound.specs.CheckLaws.{checks-sound}
+use Rattle.checks.specs.CheckLaws.{checks-sound}
 use Rattle.sound.proofs.Facts.{due-word}
 use borrow.Author.Needs.{needs}
 use Rattle.sound.proofs.is_sound.Statement.{statement}

@@ -1,5 +1,5 @@
--- `perform`: each request is its step.
-use Rattle.steps.specs.Machine.{machineStep}
+-- `steps::perform`: each request is its step.
+use Rattle.machine.specs.Machine.{machineStep}
 use borrow.Author.Needs.{needs}
 use Rattle.steps.proofs.perform.Statement.{statement}
 use Rattle.steps.proofs.perform.Tie as tie

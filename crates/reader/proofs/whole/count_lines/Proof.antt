@@ -1,4 +1,4 @@
--- `count_lines`: the lines that were passed and those from the place on are the text's.
+-- `reader::whole::count_lines`: the lines that were passed and those from the place on are the text's.
 use borrow.Author.Needs.{needs}
 use mathlib.Core.Path.{_≡_, sym, _∙_}
 use Prim.Native.Nat.{_≤_, _+_, _-_}

@@ -1,4 +1,4 @@
--- `nth_line`: the line that is asked for is the one `left` lines on from the place.
+-- `reader::whole::nth_line`: the line that is asked for is the one `left` lines on from the place.
 use borrow.Author.Needs.{needs}
 use mathlib.Core.Path.{_≡_, refl, sym, _∙_}
 use mathlib.Core.List.{[]}

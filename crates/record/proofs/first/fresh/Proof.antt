@@ -1,4 +1,4 @@
--- `fresh`: the packed fresh state, computed.
+-- `record::first::fresh`: the packed fresh state, computed.
 use mathlib.Core.Path.{refl}
 use Rattle.lists.specs.Table.{pad, filled}
 use Rattle.task_lists.specs.TaskList.{taskListOf, idOf}

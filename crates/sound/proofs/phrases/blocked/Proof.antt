@@ -2,7 +2,7 @@
 use borrow.Author.Needs.{needs}
 use borrow.Author.Tests.{lt-ltb, le-ltb, eq-eqb, ne-eqb}
 use Rattle.lists.specs.Test.{_and_}
-use Rattle.sound.specs.Checks.{blockedAt}
+use Rattle.checks.specs.Checks.{blockedAt}
 use Rattle.sound.proofs.phrases.blocked.Statement.{statement}
 use Rattle.sound.proofs.phrases.blocked.Tie as tie
 

@@ -1,7 +1,7 @@
 -- `sound::phrases::check` meets its contract. Assumes nothing.
 use borrow.Author.Needs.{needs}
 use Rattle.lists.specs.Test.{_and_}
-use Rattle.sound.specs.Checks.{checks}
+use Rattle.checks.specs.Checks.{checks}
 use Rattle.sound.proofs.SoundCode.{passed, failed}
 use Rattle.sound.proofs.phrases.check.Statement.{statement}
 use Rattle.sound.proofs.phrases.check.Tie as tie

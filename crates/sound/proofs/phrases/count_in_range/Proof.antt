@@ -2,7 +2,7 @@
 use borrow.Author.Needs.{needs}
 use borrow.Author.Tests.{le-leb, lt-leb}
 use Rattle.lists.specs.Test.{_and_}
-use Rattle.sound.specs.Checks.{countIn}
+use Rattle.checks.specs.Checks.{countIn}
 use Rattle.sound.proofs.phrases.count_in_range.Statement.{statement}
 use Rattle.sound.proofs.phrases.count_in_range.Tie as tie
 

@@ -6,7 +6,7 @@ use Prim.Native.Nat.{_-_, _≤_}
 use native.Mathlib.Omega.{arith}
 use Rattle.lists.specs.Test.{allb}
 use Rattle.walks.proofs.Laws.{all-none, all-step, all-done, all-fails}
-use Rattle.sound.specs.Checks.{countIn, countsIn}
+use Rattle.checks.specs.Checks.{countIn, countsIn}
 use Rattle.sound.proofs.SoundCode.{passed, failed}
 use Rattle.sound.proofs.phrases.counts_in.Statement.{statement}
 use Rattle.sound.proofs.phrases.counts_in.Tie as tie

@@ -1,6 +1,6 @@
 -- `sound::phrases::levels_in` meets its contract. Assumes nothing.
 use borrow.Author.Needs.{needs}
-use Rattle.sound.specs.Checks.{levelsIn}
+use Rattle.checks.specs.Checks.{levelsIn}
 use Rattle.sound.proofs.phrases.levels_in.Statement.{statement}
 use Rattle.sound.proofs.phrases.levels_in.Tie as tie
 

@@ -2,7 +2,7 @@
 use borrow.Author.Needs.{needs}
 use borrow.Author.Tests.{lt-ltb, le-ltb, eq-eqb, ne-eqb}
 use Rattle.lists.specs.Test.{_and_, _or_}
-use Rattle.sound.specs.Checks.{mutexInRange}
+use Rattle.checks.specs.Checks.{mutexInRange}
 use Rattle.sound.proofs.phrases.mutex_in.Statement.{statement}
 use Rattle.sound.proofs.phrases.mutex_in.Tie as tie
 

@@ -6,7 +6,7 @@ use Prim.Native.Nat.{_-_, _≤_}
 use native.Mathlib.Omega.{arith}
 use Rattle.lists.specs.Test.{allb}
 use Rattle.walks.proofs.Laws.{all-none, all-step, all-done, all-fails}
-use Rattle.sound.specs.Checks.{mutexInRange, mutexesIn}
+use Rattle.checks.specs.Checks.{mutexInRange, mutexesIn}
 use Rattle.sound.proofs.SoundCode.{passed, failed}
 use Rattle.sound.proofs.phrases.mutexes_in.Statement.{statement}
 use Rattle.sound.proofs.phrases.mutexes_in.Tie as tie

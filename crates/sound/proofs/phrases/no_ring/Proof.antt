@@ -1,6 +1,6 @@
 -- `sound::phrases::no_ring` meets its contract. Assumes nothing.
 use borrow.Author.Needs.{needs}
-use Rattle.sound.specs.Checks.{ringless}
+use Rattle.checks.specs.Checks.{ringless}
 use Rattle.sound.proofs.phrases.no_ring.Statement.{statement}
 use Rattle.sound.proofs.phrases.no_ring.Tie as tie
 

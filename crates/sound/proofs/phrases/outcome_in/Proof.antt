@@ -2,7 +2,7 @@
 use borrow.Author.Needs.{needs}
 use borrow.Author.Tests.{eq-eqb, ne-eqb}
 use Rattle.lists.specs.Test.{_or_}
-use Rattle.sound.specs.Checks.{outcomeAt}
+use Rattle.checks.specs.Checks.{outcomeAt}
 use Rattle.sound.proofs.phrases.outcome_in.Statement.{statement}
 use Rattle.sound.proofs.phrases.outcome_in.Tie as tie
 

@@ -7,7 +7,7 @@ use lib.Dec.{eqb}
 use borrow.Author.Tests.{eq-eqb, ne-eqb}
 use Rattle.lists.specs.Test.{_and_}
 use Rattle.task_lists.specs.TaskList.{keyOf}
-use Rattle.sound.specs.Checks.{placeAt}
+use Rattle.checks.specs.Checks.{placeAt}
 use Rattle.sound.proofs.SoundCode.{none-more, one-more}
 use Rattle.sound.proofs.phrases.place_at.Statement.{statement}
 use Rattle.sound.proofs.phrases.place_at.Tie as tie

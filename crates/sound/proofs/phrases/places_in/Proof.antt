@@ -10,7 +10,7 @@ use borrow.Author.Tests.{lt-ltb, le-ltb, eq-eqb, ne-eqb}
 use Rattle.lists.specs.Test.{allb, _and_, _or_}
 use Rattle.lists.specs.TestLaws.{or-l, or-r}
 use Rattle.walks.proofs.Laws.{all-none, all-step, all-done, all-fails}
-use Rattle.sound.specs.Checks.{placeAt, placesIn}
+use Rattle.checks.specs.Checks.{placeAt, placesIn}
 use Rattle.sound.proofs.SoundCode.{passed, failed}
 use Rattle.sound.proofs.phrases.places_in.Statement.{statement}
 use Rattle.sound.proofs.phrases.places_in.Tie as tie

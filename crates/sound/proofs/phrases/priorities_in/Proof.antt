@@ -7,7 +7,7 @@ use native.Mathlib.Omega.{arith}
 use borrow.Author.Tests.{lt-ltb, le-ltb}
 use Rattle.lists.specs.Test.{allb}
 use Rattle.walks.proofs.Laws.{all-none, all-step, all-done, all-fails}
-use Rattle.sound.specs.Checks.{prioritiesIn}
+use Rattle.checks.specs.Checks.{prioritiesIn}
 use Rattle.sound.proofs.SoundCode.{priorityAt}
 use Rattle.sound.proofs.phrases.priorities_in.Statement.{statement}
 use Rattle.sound.proofs.phrases.priorities_in.Tie as tie

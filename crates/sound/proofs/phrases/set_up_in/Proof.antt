@@ -2,7 +2,7 @@
 use borrow.Author.Needs.{needs}
 use borrow.Author.Tests.{eq-eqb, ne-eqb}
 use Rattle.lists.specs.Test.{_and_}
-use Rattle.sound.specs.Checks.{setUpIn}
+use Rattle.checks.specs.Checks.{setUpIn}
 use Rattle.sound.proofs.SoundCode.{passed, failed}
 use Rattle.sound.proofs.phrases.set_up_in.Statement.{statement}
 use Rattle.sound.proofs.phrases.set_up_in.Tie as tie

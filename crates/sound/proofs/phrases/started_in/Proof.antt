@@ -2,7 +2,7 @@
 use borrow.Author.Needs.{needs}
 use borrow.Author.Tests.{eq-eqb, ne-eqb}
 use Rattle.lists.specs.Test.{_and_}
-use Rattle.sound.specs.Checks.{startedIn}
+use Rattle.checks.specs.Checks.{startedIn}
 use Rattle.sound.proofs.phrases.started_in.Statement.{statement}
 use Rattle.sound.proofs.phrases.started_in.Tie as tie
 

@@ -1,7 +1,7 @@
 -- `sound::phrases::task_in` meets its contract. Assumes nothing.
 use borrow.Author.Needs.{needs}
 use Rattle.lists.specs.Test.{_and_}
-use Rattle.sound.specs.Checks.{taskIn}
+use Rattle.checks.specs.Checks.{taskIn}
 use Rattle.sound.proofs.SoundCode.{passed, failed}
 use Rattle.sound.proofs.phrases.task_in.Statement.{statement}
 use Rattle.sound.proofs.phrases.task_in.Tie as tie

@@ -4,7 +4,7 @@ use Prim.Native.Nat.{_<_}
 use native.Mathlib.Omega.{arith}
 use borrow.Author.Tests.{lt-ltb, eq-eqb, ne-eqb}
 use Rattle.lists.specs.Test.{_and_}
-use Rattle.sound.specs.Checks.{timedAt}
+use Rattle.checks.specs.Checks.{timedAt}
 use Rattle.sound.proofs.phrases.timed.Statement.{statement}
 use Rattle.sound.proofs.phrases.timed.Tie as tie
 

@@ -1,6 +1,6 @@
 -- `sound::phrases::top_in` meets its contract. Assumes nothing.
 use borrow.Author.Needs.{needs}
-use Rattle.sound.specs.Checks.{topIn}
+use Rattle.checks.specs.Checks.{topIn}
 use Rattle.sound.proofs.phrases.top_in.Statement.{statement}
 use Rattle.sound.proofs.phrases.top_in.Tie as tie
 

@@ -1,4 +1,4 @@
--- `sound::phrases::is_id` meets its contract. Assumes nothing.
+-- `sound::tidy::is_id` meets its contract. Assumes nothing.
 use borrow.Author.Tests.{lt-ltb, le-ltb}
 use Rattle.lists.specs.Test.{_or_}
 use Rattle.sound.proofs.tidy.is_id.Statement.{statement}

@@ -1,4 +1,4 @@
--- `sound::phrases::mutexes_tidy` meets its contract. The loop keeps that the places passed are tidy. Assumes nothing.
+-- `sound::tidy::mutexes_tidy` meets its contract. The loop keeps that the places passed are tidy. Assumes nothing.
 use borrow.Author.Needs.{needs}
 use mathlib.Core.Path.{_≡_, sym}
 use mathlib.Core.Bool.{true}

@@ -1,4 +1,4 @@
--- `sound::phrases::semaphore_place` meets its contract. Assumes nothing.
+-- `sound::tidy::semaphore_place` meets its contract. Assumes nothing.
 use borrow.Author.Needs.{needs}
 use borrow.Author.Tests.{lt-ltb, le-ltb, eq-eqb, ne-eqb}
 use Rattle.lists.specs.Test.{_and_, _or_}

@@ -1,4 +1,4 @@
--- `sound::phrases::task_place` meets its contract. Assumes nothing.
+-- `sound::tidy::task_place` meets its contract. Assumes nothing.
 use borrow.Author.Needs.{needs}
 use borrow.Author.Tests.{lt-ltb, le-ltb}
 use Rattle.record.specs.SoundRecord.{taskPlaceb}

@@ -1,4 +1,4 @@
--- `sound::phrases::tidy` meets its contract. Assumes nothing.
+-- `sound::tidy::tidy` meets its contract. Assumes nothing.
 use borrow.Author.Needs.{needs}
 use borrow.Author.Tests.{le-leb, lt-leb}
 use Rattle.lists.specs.Test.{_and_}

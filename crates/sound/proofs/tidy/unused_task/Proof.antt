@@ -1,4 +1,4 @@
--- `sound::phrases::unused_task` meets its contract. Assumes nothing.
+-- `sound::tidy::unused_task` meets its contract. Assumes nothing.
 use borrow.Author.Needs.{needs}
 use borrow.Author.Tests.{eq-eqb, ne-eqb}
 use Rattle.lists.specs.Test.{_and_}

@@ -1,4 +1,4 @@
--- `sound::phrases::used_task` meets its contract. Assumes nothing.
+-- `sound::tidy::used_task` meets its contract. Assumes nothing.
 use borrow.Author.Needs.{needs}
 use mathlib.Core.Path.{_≡_, refl, sym}
 use mathlib.Core.Bool.{true}

@@ -1,30 +1,26 @@
 -- `steps::plain::free` meets its contract.
 use borrow.Author.Needs.{needs}
 use borrow.Author.Tests.{eq-eqb, ne-eqb}
-use Rattle.steps.specs.Machine.{calledBy, freeStep}
+use Rattle.machine.specs.Machine.{calledBy, freeStep}
 use Rattle.steps.proofs.plain.free.Statement.{statement}
 use Rattle.steps.proofs.plain.free.Tie as tie
+
+of-caller-requires : tie.Need-of-caller-requires
+of-caller-requires c κs = search needs
 
 answer-requires : tie.Need-answer-requires
 answer-requires c κs = search needs
 
 returns : tie.Need-returns
 unfolding freeStep calledBy
-returns c = simp (c .answer .ensures, eq-eqb _ _ (c .before .if1 .taken))
+returns c = simp (c .answer .ensures, ← c .before .before .of-caller .ensures, ne-eqb _ _ (c .before .if1 .taken))
 
 answer-requires-2 : tie.Need-answer-requires-2
 answer-requires-2 c κs = search needs
 
 returns-2 : tie.Need-returns-2
 unfolding freeStep calledBy
-returns-2 c = simp (c .answer2 .ensures, eq-eqb _ _ (c .before .if2 .taken), ne-eqb _ _ (c .before .before .before .if1 .left))
-
-answer-requires-3 : tie.Need-answer-requires-3
-answer-requires-3 c κs = search needs
-
-returns-3 : tie.Need-returns-3
-unfolding freeStep calledBy
-returns-3 c = simp (c .answer3 .ensures, eq-eqb _ _ (c .before .if3 .taken), ne-eqb _ _ (c .before .before .before .if2 .left), ne-eqb _ _ (c .before .before .before .before .before .if1 .left))
+returns-2 c = simp (c .answer2 .ensures, eq-eqb _ _ (c .before .if2 .taken), ← c .before .before .before .before .of-caller .ensures, eq-eqb _ _ (c .before .before .before .if1 .left))
 
 sub-s : tie.Need-sub-s
 sub-s c = search needs
@@ -32,24 +28,23 @@ sub-s c = search needs
 dispatch-requires : tie.Need-dispatch-requires
 dispatch-requires c κs = search needs
 
-answer-requires-4 : tie.Need-answer-requires-4
-answer-requires-4 c κs = search needs
+answer-requires-3 : tie.Need-answer-requires-3
+answer-requires-3 c κs = search needs
 
-returns-4 : tie.Need-returns-4
+returns-3 : tie.Need-returns-3
 unfolding freeStep calledBy
-returns-4 c = simp (c .answer4 .ensures, c .before .dispatch .ensures, ne-eqb _ _ (c .before .before .before .if3 .left), ne-eqb _ _ (c .before .before .before .before .before .if2 .left), ne-eqb _ _ (c .before .before .before .before .before .before .before .if1 .left))
+returns-3 c = simp (c .answer3 .ensures, c .before .dispatch .ensures, ne-eqb _ _ (c .before .before .before .if2 .left), ← c .before .before .before .before .before .before .of-caller .ensures, eq-eqb _ _ (c .before .before .before .before .before .if1 .left))
 
 pub free-spec : {M : Type 1} → statement M
 free-spec =
     tie.close
     (tie.spec
+    of-caller-requires
     answer-requires
     returns
     answer-requires-2
     returns-2
-    answer-requires-3
-    returns-3
     sub-s
     dispatch-requires
-    answer-requires-4
-    returns-4)
+    answer-requires-3
+    returns-3)

@@ -1,7 +1,7 @@
 -- `steps::plain::level` meets its contract.
 use borrow.Author.Needs.{needs}
 use borrow.Author.Tests.{le-leb, lt-leb}
-use Rattle.steps.specs.Machine.{levelStep}
+use Rattle.machine.specs.Machine.{levelStep}
 use Rattle.steps.proofs.plain.level.Statement.{statement}
 use Rattle.steps.proofs.plain.level.Tie as tie
 

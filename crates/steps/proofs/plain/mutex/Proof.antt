@@ -1,7 +1,7 @@
 -- `steps::plain::mutex` meets its contract.
 use borrow.Author.Needs.{needs}
 use borrow.Author.Tests.{eq-eqb, le-leb, lt-leb, ne-eqb}
-use Rattle.steps.specs.Machine.{mutexStep}
+use Rattle.machine.specs.Machine.{mutexStep}
 use Rattle.steps.proofs.plain.mutex.Statement.{statement}
 use Rattle.steps.proofs.plain.mutex.Tie as tie
 

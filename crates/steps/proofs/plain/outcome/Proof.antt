@@ -1,7 +1,7 @@
 -- `steps::plain::outcome` meets its contract.
 use borrow.Author.Needs.{needs}
 use borrow.Author.Tests.{le-leb, lt-leb}
-use Rattle.steps.specs.Machine.{outcomeStep}
+use Rattle.machine.specs.Machine.{outcomeStep}
 use Rattle.steps.proofs.plain.outcome.Statement.{statement}
 use Rattle.steps.proofs.plain.outcome.Tie as tie
 

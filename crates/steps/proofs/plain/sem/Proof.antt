@@ -1,7 +1,7 @@
 -- `steps::plain::sem` meets its contract.
 use borrow.Author.Needs.{needs}
 use borrow.Author.Tests.{eq-eqb, le-leb, le-ltb, lt-leb, lt-ltb, ne-eqb}
-use Rattle.steps.specs.Machine.{semStep}
+use Rattle.machine.specs.Machine.{semStep}
 use Rattle.steps.proofs.plain.sem.Statement.{statement}
 use Rattle.steps.proofs.plain.sem.Tie as tie
 

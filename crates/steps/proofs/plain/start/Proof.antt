@@ -1,7 +1,7 @@
 -- `steps::plain::start` meets its contract.
 use borrow.Author.Needs.{needs}
 use borrow.Author.Tests.{eq-eqb, ne-eqb}
-use Rattle.steps.specs.Machine.{startStep}
+use Rattle.machine.specs.Machine.{startStep}
 use Rattle.steps.proofs.plain.start.Statement.{statement}
 use Rattle.steps.proofs.plain.start.Tie as tie
 

@@ -1,7 +1,7 @@
 -- `steps::plain::task` meets its contract.
 use borrow.Author.Needs.{needs}
 use borrow.Author.Tests.{eq-eqb, le-leb, lt-leb, ne-eqb}
-use Rattle.steps.specs.Machine.{taskStep}
+use Rattle.machine.specs.Machine.{taskStep}
 use Rattle.steps.proofs.plain.task.Statement.{statement}
 use Rattle.steps.proofs.plain.task.Tie as tie
 

@@ -1,7 +1,7 @@
 -- `steps::plain::tick` meets its contract.
 use borrow.Author.Needs.{needs}
 use borrow.Author.Tests.{eq-eqb, ne-eqb}
-use Rattle.steps.specs.Machine.{tickStep}
+use Rattle.machine.specs.Machine.{tickStep}
 use Rattle.steps.proofs.plain.tick.Statement.{statement}
 use Rattle.steps.proofs.plain.tick.Tie as tie
 

@@ -1,7 +1,7 @@
--- `steps::plain::credit` meets its contract.
+-- `steps::waits::credit` meets its contract.
 use borrow.Author.Needs.{needs}
 use borrow.Author.Tests.{eq-eqb, ne-eqb, le-leb, lt-leb}
-use Rattle.steps.specs.Machine.{creditStep}
+use Rattle.machine.specs.Machine.{creditStep}
 use Rattle.steps.proofs.waits.credit.Statement.{statement}
 use Rattle.steps.proofs.waits.credit.Tie as tie
 

@@ -1,7 +1,7 @@
--- `steps::plain::flush` meets its contract.
+-- `steps::waits::flush` meets its contract.
 use borrow.Author.Needs.{needs}
 use borrow.Author.Tests.{eq-eqb, le-leb, lt-leb, ne-eqb}
-use Rattle.steps.specs.Machine.{flushStep}
+use Rattle.machine.specs.Machine.{flushStep}
 use Rattle.steps.proofs.waits.flush.Statement.{statement}
 use Rattle.steps.proofs.waits.flush.Tie as tie
 

@@ -1,10 +1,10 @@
--- `steps::plain::pass` meets its contract.
+-- `steps::waits::pass` meets its contract.
 use borrow.Author.Needs.{needs}
 use borrow.Author.Tests.{eq-eqb, ne-eqb}
 use mathlib.Core.Path.{ap}
 use Prim.Native.Nat.{ℕ}
 use Rattle.record.specs.Setters.{putMutexes}
-use Rattle.steps.specs.Machine.{ownerSet, passed}
+use Rattle.machine.specs.Machine.{ownerSet, passed}
 use Rattle.steps.proofs.waits.pass.Statement.{statement}
 use Rattle.steps.proofs.waits.pass.Tie as tie
 

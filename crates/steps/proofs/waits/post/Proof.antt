@@ -1,7 +1,7 @@
--- `steps::plain::post` meets its contract.
+-- `steps::waits::post` meets its contract.
 use borrow.Author.Needs.{needs}
 use borrow.Author.Tests.{eq-eqb, le-leb, lt-leb, ne-eqb}
-use Rattle.steps.specs.Machine.{postStep}
+use Rattle.machine.specs.Machine.{postStep}
 use Rattle.steps.proofs.waits.post.Statement.{statement}
 use Rattle.steps.proofs.waits.post.Tie as tie
 

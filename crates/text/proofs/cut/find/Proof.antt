@@ -1,4 +1,4 @@
--- `find`: no b was passed, so the first one is where it was.
+-- `text::cut::find`: no b was passed, so the first one is where it was.
 use borrow.Author.Needs.{needs}
 use mathlib.Core.Path.{_≡_, refl, ap}
 use Prim.Native.Nat.{_-_}

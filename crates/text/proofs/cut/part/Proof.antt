@@ -1,4 +1,4 @@
--- `part`: where the text is shorter, the part is what there is of it.
+-- `text::cut::part`: where the text is shorter, the part is what there is of it.
 use borrow.Author.Needs.{needs}
 use mathlib.Core.Path.{_≡_, sym, _∙_}
 use Prim.Native.Nat.{_≤_, _-_}

@@ -1,4 +1,4 @@
--- `piece`: from `at` on, as many bytes as stand before the next b.
+-- `text::cut::piece`: from `at` on, as many bytes as stand before the next b.
 use borrow.Author.Needs.{needs}
 use mathlib.Core.Path.{_≡_, _∙_}
 use Prim.Native.Nat.{_-_}

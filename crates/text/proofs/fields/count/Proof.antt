@@ -1,4 +1,4 @@
--- `count`: the fields that were ended and those of what is left are the line's.
+-- `text::fields::count`: the fields that were ended and those of what is left are the line's.
 use borrow.Author.Needs.{needs}
 use mathlib.Core.Path.{_≡_}
 use mathlib.Core.Logic.{⊎-elim}

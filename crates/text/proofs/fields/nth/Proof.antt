@@ -1,4 +1,4 @@
--- `nth`: the field that is asked for is the one `left` tabs on from `start`.
+-- `text::fields::nth`: the field that is asked for is the one `left` tabs on from `start`.
 use borrow.Author.Needs.{needs}
 use mathlib.Core.Path.{_≡_, refl, sym, _∙_}
 use Prim.Native.Nat.{_<_}

@@ -1,4 +1,4 @@
--- `next`: behind the LF that ends the line, if one does.
+-- `text::lines::next`: behind the LF that ends the line, if one does.
 use borrow.Author.Needs.{needs}
 use mathlib.Core.Path.{sym}
 use native.Mathlib.Omega.{arith}

@@ -1,4 +1,4 @@
--- `put_bytes`: the first i bytes of src stand already.
+-- `text::place::put_bytes`: the first i bytes of src stand already.
 use borrow.Author.Needs.{needs}
 use mathlib.Core.Path.{_≡_, refl, sym}
 use Prim.Native.Nat.{_≤_, _<_, _+_, _-_}

@@ -1,4 +1,4 @@
--- `arrive`: each piece begins where the one before it ends.
+-- `text_check::arrivals::arrive`: each piece begins where the one before it ends.
 use borrow.Author.Needs.{needs}
 use mathlib.Core.Logic.{⊎-elim}
 use mathlib.Core.Path.{_≡_}

@@ -1,4 +1,4 @@
--- `piece`: each call goes on behind the place where it began.
+-- `text_check::arrivals::piece`: each call goes on behind the place where it began.
 use borrow.Author.Needs.{needs}
 use mathlib.Core.Path.{_≡_}
 use Prim.Native.Nat.{_-_}

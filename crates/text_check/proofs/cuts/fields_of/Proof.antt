@@ -1,4 +1,4 @@
--- `fields_of`: the loop goes through the places below n.
+-- `text_check::cuts::fields_of`: the loop goes through the places below n.
 use borrow.Author.Needs.{needs}
 use Prim.Native.Nat.{_≤_, _-_}
 use Rattle.text_check.proofs.cuts.fields_of.Statement.{statement}

@@ -1,4 +1,4 @@
--- `lines_of`: the next line begins behind the one before.
+-- `text_check::cuts::lines_of`: the next line begins behind the one before.
 use borrow.Author.Needs.{needs}
 use Prim.Native.Nat.{_-_}
 use native.Mathlib.Omega.{arith}

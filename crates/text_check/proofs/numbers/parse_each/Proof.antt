@@ -1,4 +1,4 @@
--- `parse_each`: the next line begins behind the one before.
+-- `text_check::numbers::parse_each`: the next line begins behind the one before.
 use borrow.Author.Needs.{needs}
 use Prim.Native.Nat.{_-_}
 use native.Mathlib.Omega.{arith}

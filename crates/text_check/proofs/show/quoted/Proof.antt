@@ -1,4 +1,4 @@
--- `quoted`: the bytes before place i are written.
+-- `text_check::show::quoted`: the bytes before place i are written.
 use borrow.Author.Needs.{needs}
 use Prim.Native.Nat.{_≤_, _-_}
 use lib.ListN.{length}

@@ -1,0 +1,314 @@
+-- The functions over the record that the steps are made of, case by case as the code goes. MachineLaws shows them, on a sound record, equal to the packed rules.
+use mathlib.Core.List.{List}
+use mathlib.Core.Bool.{Bool, true, cond, not}
+use Prim.Native.Nat.{ℕ, zero, suc, _+_, _-_}
+use lib.Dec.{ltb, leb, eqb}
+use lib.ListN.{length, getD, set, replicate}
+use Rattle.lists.specs.Test.{allb}
+use Rattle.lists.specs.Count.{member}
+use Rattle.lists.specs.Order.{before}
+use Rattle.lists.specs.Table.{filled}
+use Rattle.rules.specs.Sizes.{maxTasks, taskPlaces, maxMutexes, maxSemaphores, levels, kinds, maxHold, maxTicks, forever, granted, pending, timedOut, flushed, onMutex, onSemaphore, onTime}
+use Rattle.rules.specs.Step.{level, outcome}
+use Rattle.rules.specs.Effect.{due}
+use Rattle.task_lists.specs.TaskList.{noId, items, keyOf, pushed, inserted, kept, insertedFlagged, counted, bestOf}
+use Rattle.walks.specs.Walk.{chainFrom}
+use Rattle.record.specs.Record.{ticksLeft, dueAt}
+use Rattle.record.specs.declared.State.{State}  -- keep
+use Rattle.record.specs.declared.Tasks.{Tasks}  -- keep
+use Rattle.record.specs.declared.Mutexes.{Mutexes}  -- keep
+use Rattle.record.specs.declared.Semaphores.{Semaphores}  -- keep
+use Rattle.task_lists.specs.declared.TaskList.{TaskList}  -- keep
+use Rattle.record.specs.declared.Out.{Out}  -- keep
+use Rattle.record.specs.declared.Request.{Request}  -- keep
+use Rattle.record.specs.declared.Request.the-variants.{Task, Mutex, Sem, Start, Lock, Unlock, Pend, Post, Flush, Sleep, Yield, Hold, Free, Tick, Level, Outcome}  -- keep
+use Rattle.record.specs.Setters.{putTasks, putSemaphores, putClock, putMutexes, putReady, putWaiting, putStarted, putHold, putRunning, putLevel}
+use Rattle.record.specs.StepRecord.{answerOf}
+use Rattle.record.specs.Reads.{ownerAt, nextAt, newLevels, countAt, maximumAt, firstId}
+
+unfoldable pub waitBegun : Tasks → ℕ → ℕ → ℕ → ℕ → ℕ → Tasks
+waitBegun t i kind object timed due = cond (ltb i taskPlaces) (record {
+  due = set (t .due) i due;
+  priority = t .priority;
+  level = t .level;
+  outcome = set (t .outcome) i pending;
+  wait = set (t .wait) i kind;
+  object = set (t .object) i object;
+  timed = set (t .timed) i timed;
+  n = t .n;
+}) t
+
+unfoldable pub waitEnded : Tasks → ℕ → ℕ → Tasks
+waitEnded t i out = cond (ltb i taskPlaces) (record {
+  due = set (t .due) i 0;
+  priority = t .priority;
+  level = t .level;
+  outcome = set (t .outcome) i out;
+  wait = set (t .wait) i 0;
+  object = set (t .object) i 0;
+  timed = set (t .timed) i 0;
+  n = t .n;
+}) t
+
+unfoldable pub endedIf : Tasks → List ℕ → ℕ → ℕ → ℕ → Tasks
+endedIf t flags slept other i = cond (eqb (keyOf flags i) 1) (cond (eqb (keyOf (t .wait) i) onTime) (waitEnded t i slept) (waitEnded t i other)) t
+
+unfoldable pub endedWhere : Tasks → List ℕ → ℕ → ℕ → ℕ → Tasks
+endedWhere t flags slept other zero = t
+endedWhere t flags slept other (suc i) = endedIf (endedWhere t flags slept other i) flags slept other i
+
+-- flags that name tasks
+unfoldable pub single : ℕ → List ℕ
+single i = cond (ltb i taskPlaces) (set (replicate taskPlaces 0) i 1) (replicate taskPlaces 0)
+
+unfoldable pub dueFlag : Tasks → ℕ → ℕ → ℕ
+dueFlag t clock i = cond (eqb (getD (t .timed) i 0) 1) (cond (eqb (ticksLeft (getD (t .due) i 0) clock) 1) 1 0) 0
+
+unfoldable pub waiterFlag : Tasks → ℕ → ℕ → ℕ → ℕ
+waiterFlag t kind object i = cond (eqb (getD (t .wait) i 0) kind) (cond (eqb (getD (t .object) i 0) object) 1 0) 0
+
+unfoldable pub differs : ℕ → ℕ → ℕ
+differs x y = cond (eqb x y) 0 1
+
+abbrev pub differFlag : List ℕ → List ℕ → ℕ → ℕ
+differFlag a b i = differs (getD a i 0) (getD b i 0)
+
+unfoldable pub bothOnes : ℕ → ℕ → ℕ
+bothOnes x y = cond (eqb x 1) (cond (eqb y 1) 1 0) 0
+
+abbrev pub bothFlag : List ℕ → List ℕ → ℕ → ℕ
+bothFlag a b i = bothOnes (getD a i 0) (getD b i 0)
+
+unfoldable pub anyFlag : List ℕ → Bool
+anyFlag f = not (allb taskPlaces (λ i. not (eqb (getD f i 0) 1)))
+
+unfoldable pub movedOf : TaskList → List ℕ → List ℕ
+movedOf q changed = filled taskPlaces (bothFlag changed (counted (replicate taskPlaces 0) (items q)))
+
+unfoldable pub resettled : TaskList → List ℕ → List ℕ → List ℕ → ℕ → TaskList
+resettled q old new woken n =
+    let changed = filled taskPlaces (differFlag old new) in
+    insertedFlagged (insertedFlagged (kept q changed 0) new (movedOf q changed) n) new woken n
+
+unfoldable pub settled : State → List ℕ → State
+settled k woken =
+    let new = newLevels (k .tasks) (k .mutexes) in
+    putReady (putTasks k (putLevel (k .tasks) new)) (resettled (k .ready) (k .tasks .level) new woken (k .tasks .n))
+
+abbrev pub without : TaskList → ℕ → TaskList
+without q x = kept q (single x) 0
+
+abbrev pub ran : State → ℕ → TaskList → State
+ran k x q = putRunning (putReady k q) x
+
+unfoldable pub displaced : State → ℕ → ℕ → State
+displaced k r x = ran k x (inserted (without (k .ready) x) (k .tasks .level) (keyOf (k .tasks .level) r) r)
+
+unfoldable pub dispatched : State → State
+dispatched k =
+    cond (eqb (k .started) 0) k
+    (cond (eqb (k .ready .n) 0) k
+    (cond (eqb (k .running) noId) (ran k (firstId (k .ready)) (without (k .ready) (firstId (k .ready))))
+    (cond (eqb (k .hold) 0)
+    (cond (ltb (keyOf (k .tasks .level) (firstId (k .ready))) (keyOf (k .tasks .level) (k .running))) (displaced k (k .running) (firstId (k .ready))) k)
+    k)))
+
+-- the waits of the flagged tasks end
+unfoldable pub woke : State → List ℕ → ℕ → ℕ → State
+woke k flags slept other = putWaiting (putTasks k (endedWhere (k .tasks) flags slept other taskPlaces)) (kept (k .waiting) flags 0)
+
+-- they become ready, no level having changed
+unfoldable pub lined : State → List ℕ → State
+lined k flags = putReady k (insertedFlagged (k .ready) (k .tasks .level) flags (k .tasks .n))
+
+-- r waits, and nobody runs
+unfoldable pub timedFor : ℕ → ℕ
+timedFor t = cond (eqb t forever) 0 1
+
+unfoldable pub dueFor : ℕ → ℕ → ℕ
+dueFor clock t = cond (eqb t forever) 0 (dueAt clock t)
+
+unfoldable pub blockedOn : State → ℕ → ℕ → ℕ → ℕ → State
+blockedOn k r kind object t = putRunning (putWaiting (putTasks k (waitBegun (k .tasks) r kind object (timedFor t) (dueFor (k .clock) t))) (pushed (k .waiting) r)) noId
+
+-- objects
+unfoldable pub ownerSet : Mutexes → ℕ → ℕ → Mutexes
+ownerSet m j o = cond (ltb j maxMutexes) (record { kind = m .kind; owner = set (m .owner) j o; n = m .n }) m
+
+unfoldable pub countSet : Semaphores → ℕ → ℕ → Semaphores
+countSet c j v = cond (ltb j maxSemaphores) (record { count = set (c .count) j v; maximum = c .maximum; n = c .n }) c
+
+unfoldable pub taskAdded : Tasks → ℕ → Tasks
+taskAdded t p = cond (ltb (t .n) taskPlaces) (record {
+  due = t .due;
+  priority = set (t .priority) (t .n) p;
+  level = set (t .level) (t .n) p;
+  outcome = t .outcome;
+  wait = t .wait;
+  object = t .object;
+  timed = t .timed;
+  n = t .n + 1;
+}) t
+
+unfoldable pub mutexAdded : Mutexes → ℕ → Mutexes
+mutexAdded m q = cond (ltb (m .n) maxMutexes) (record { kind = set (m .kind) (m .n) q; owner = m .owner; n = m .n + 1 }) m
+
+unfoldable pub semAdded : Semaphores → ℕ → ℕ → Semaphores
+semAdded c count max = cond (ltb (c .n) maxSemaphores) (record { count = set (c .count) (c .n) count; maximum = set (c .maximum) (c .n) max; n = c .n + 1 }) c
+
+-- the answer of a step, with the running task of the record that it hands back
+abbrev pub answerIn : State → ℕ → ℕ → Out
+answerIn k number value = record { state = k; answer = answerOf number value (k .running) }
+
+-- the steps, refusals in the table's order
+unfoldable pub isTime : ℕ → Bool
+isTime t = cond (leb t maxTicks) true (eqb t forever)
+
+-- why a caller that would wait may not, or 0
+unfoldable pub waitRefusal : ℕ → ℕ → ℕ
+waitRefusal held t = cond (eqb t 0) 3 (cond (ltb 0 held) 11 0)
+
+-- a step by which the caller waits
+unfoldable pub mayWait : State → ℕ → Out → Out
+mayWait k t o = cond (eqb (waitRefusal (k .hold) t) 0) o (answerIn k (waitRefusal (k .hold) t) 0)
+
+unfoldable pub taskStep : State → ℕ → Out
+taskStep k p =
+    cond (eqb (k .started) 0)
+    (cond (leb levels p) (answerIn k 7 0)
+    (cond (leb maxTasks (k .tasks .n)) (answerIn k 8 0)
+    (answerIn (putReady (putTasks k (taskAdded (k .tasks) p)) (inserted (k .ready) ((taskAdded (k .tasks) p) .level) (p + 1) (k .tasks .n))) 0 (k .tasks .n))))
+    (answerIn k 4 0)
+
+unfoldable pub mutexStep : State → ℕ → Out
+mutexStep k q =
+    cond (eqb (k .started) 0)
+    (cond (leb kinds q) (answerIn k 7 0)
+    (cond (leb maxMutexes (k .mutexes .n)) (answerIn k 8 0)
+    (answerIn (putMutexes k (mutexAdded (k .mutexes) q)) 0 (k .mutexes .n))))
+    (answerIn k 4 0)
+
+unfoldable pub semStep : State → ℕ → ℕ → Out
+semStep k count max =
+    cond (eqb (k .started) 0)
+    (cond (eqb max 0) (answerIn k 7 0)
+    (cond (ltb max count) (answerIn k 7 0)
+    (cond (leb maxSemaphores (k .semaphores .n)) (answerIn k 8 0)
+    (answerIn (putSemaphores k (semAdded (k .semaphores) count max)) 0 (k .semaphores .n)))))
+    (answerIn k 4 0)
+
+unfoldable pub startStep : State → Out
+startStep k = cond (eqb (k .started) 0) (answerIn (dispatched (putStarted k 1)) 0 0) (answerIn k 4 0)
+
+-- why a step that needs a caller may not be made, or 0
+unfoldable pub callerRefusal : ℕ → ℕ → ℕ
+callerRefusal started running = cond (eqb started 0) 4 (cond (eqb running noId) 5 0)
+
+-- a step that needs a caller
+unfoldable pub calledBy : State → Out → Out
+calledBy k o = cond (eqb (callerRefusal (k .started) (k .running)) 0) o (answerIn k (callerRefusal (k .started) (k .running)) 0)
+
+unfoldable pub lockWaits : State → ℕ → ℕ → Out
+lockWaits k m t =
+    let chain = chainFrom (filled taskPlaces (nextAt (k .tasks) (k .mutexes))) (ownerAt (k .mutexes) m) (k .tasks .n) in
+    mayWait k t
+    (cond (member (k .running) chain) (answerIn k 12 (length (before (k .running) chain)))
+    (answerIn (dispatched (settled (blockedOn k (k .running) onMutex m t) (replicate taskPlaces 0))) 1 (length (before (k .running) chain))))
+
+unfoldable pub lockStep : State → ℕ → ℕ → Out
+lockStep k m t = calledBy k
+    (cond (leb (k .mutexes .n) m) (answerIn k 6 0)
+    (cond (isTime t)
+    (cond (eqb (ownerAt (k .mutexes) m) (k .running)) (answerIn k 9 0)
+    (cond (eqb (ownerAt (k .mutexes) m) noId) (answerIn (putMutexes k (ownerSet (k .mutexes) m (k .running))) 0 0) (lockWaits k m t)))
+    (answerIn k 7 0)))
+
+abbrev pub bestAt : State → ℕ → ℕ → ℕ
+bestAt k kind object = bestOf (k .waiting) (k .tasks .wait) (k .tasks .object) (k .tasks .level) kind object
+
+unfoldable pub passed : State → ℕ → ℕ → State
+passed k m w = cond (eqb w noId) (putMutexes k (ownerSet (k .mutexes) m noId))
+    (dispatched (settled (putMutexes (woke k (single w) granted granted) (ownerSet (k .mutexes) m w)) (single w)))
+
+unfoldable pub unlockStep : State → ℕ → Out
+unlockStep k m = calledBy k
+    (cond (leb (k .mutexes .n) m) (answerIn k 6 0)
+    (cond (eqb (ownerAt (k .mutexes) m) (k .running)) (answerIn (passed k m (bestAt k onMutex m)) 0 0) (answerIn k 10 0)))
+
+unfoldable pub pendStep : State → ℕ → ℕ → Out
+pendStep k j t = calledBy k
+    (cond (leb (k .semaphores .n) j) (answerIn k 6 0)
+    (cond (isTime t)
+    (cond (eqb (countAt (k .semaphores) j) 0)
+    (mayWait k t (answerIn (dispatched (blockedOn k (k .running) onSemaphore j t)) 1 0))
+    (answerIn (putSemaphores k (countSet (k .semaphores) j (countAt (k .semaphores) j - 1))) 0 0))
+    (answerIn k 7 0)))
+
+unfoldable pub creditStep : State → ℕ → ℕ → Out
+creditStep k j w =
+    cond (eqb w noId)
+    (cond (leb (maximumAt (k .semaphores) j) (countAt (k .semaphores) j)) (answerIn k 2 0)
+    (answerIn (putSemaphores k (countSet (k .semaphores) j (countAt (k .semaphores) j + 1))) 0 0))
+    (answerIn (dispatched (lined (woke k (single w) granted granted) (single w))) 0 0)
+
+unfoldable pub postStep : State → ℕ → Out
+postStep k j =
+    cond (eqb (k .started) 0) (answerIn k 4 0)
+    (cond (leb (k .semaphores .n) j) (answerIn k 6 0) (creditStep k j (bestAt k onSemaphore j)))
+
+unfoldable pub flushStep : State → ℕ → Out
+flushStep k j =
+    let flags = filled taskPlaces (waiterFlag (k .tasks) onSemaphore j) in
+    cond (eqb (k .started) 0) (answerIn k 4 0)
+    (cond (leb (k .semaphores .n) j) (answerIn k 6 0) (answerIn (dispatched (lined (woke k flags flushed flushed) flags)) 0 0))
+
+unfoldable pub sleepStep : State → ℕ → Out
+sleepStep k t = calledBy k
+    (cond (eqb t 0) (answerIn k 7 0)
+    (cond (ltb maxTicks t) (answerIn k 7 0)
+    (cond (eqb (k .hold) 0) (answerIn (dispatched (blockedOn k (k .running) onTime 0 t)) 1 0) (answerIn k 11 0))))
+
+unfoldable pub yieldStep : State → Out
+yieldStep k = calledBy k
+    (cond (eqb (k .hold) 0)
+    (answerIn (dispatched (putRunning (putReady k (inserted (k .ready) (k .tasks .level) (keyOf (k .tasks .level) (k .running) + 1) (k .running))) noId)) 0 0)
+    (answerIn k 11 0))
+
+unfoldable pub holdStep : State → Out
+holdStep k = calledBy k (cond (leb maxHold (k .hold)) (answerIn k 13 0) (answerIn (putHold k (k .hold + 1)) 0 0))
+
+unfoldable pub freeStep : State → Out
+freeStep k = calledBy k (cond (eqb (k .hold) 0) (answerIn k 13 0) (answerIn (dispatched (putHold k (k .hold - 1))) 0 0))
+
+unfoldable pub tickStep : State → Out
+tickStep k =
+    let flags = filled taskPlaces (dueFlag (k .tasks) (k .clock)) in
+    cond (eqb (k .started) 0) (answerIn k 4 0)
+    (cond (anyFlag flags)
+    (answerIn (dispatched (settled (putClock (woke k flags granted timedOut) (dueAt (k .clock) 1)) flags)) 0 0)
+    (answerIn (putClock k (dueAt (k .clock) 1)) 0 0))
+
+unfoldable pub levelStep : State → ℕ → Out
+levelStep k i = cond (leb (k .tasks .n) i) (answerIn k 6 0) (answerIn k 0 (keyOf (k .tasks .level) i))
+
+unfoldable pub outcomeStep : State → ℕ → Out
+outcomeStep k i = cond (leb (k .tasks .n) i) (answerIn k 6 0) (answerIn k 0 (keyOf (k .tasks .outcome) i))
+
+-- the step for each request
+unfoldable pub machineStep : State → Request → Out
+machineStep k (Task p) = taskStep k p
+machineStep k (Mutex q) = mutexStep k q
+machineStep k (Sem count max) = semStep k count max
+machineStep k Start = startStep k
+machineStep k (Lock m t) = lockStep k m t
+machineStep k (Unlock m) = unlockStep k m
+machineStep k (Pend j t) = pendStep k j t
+machineStep k (Post j) = postStep k j
+machineStep k (Flush j) = flushStep k j
+machineStep k (Sleep t) = sleepStep k t
+machineStep k Yield = yieldStep k
+machineStep k Hold = holdStep k
+machineStep k Free = freeStep k
+machineStep k Tick = tickStep k
+machineStep k (Level i) = levelStep k i
+machineStep k (Outcome i) = outcomeStep k i

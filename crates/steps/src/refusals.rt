@@ -1,0 +1,44 @@
+// Why a step may not be made, where several steps ask the same: a refusal's number, or 0.
+ghost use mathlib.Core.Path.{_≡_};
+ghost use Rattle.machine.specs.Machine.{callerRefusal, isTime, waitRefusal};
+use record::FOREVER;
+use record::MAX_TICKS;
+use record::NONE;
+
+// A step that needs a caller: 4 before start, 5 with none running.
+pub fn of_caller(started: u8, running: u8) -> u8
+    ensures { λ r. ⌜ r ≡ callerRefusal started running ⌝ }
+{
+    if started == 0 {
+        return 4;
+    }
+    if running == NONE {
+        return 5;
+    }
+    0
+}
+
+// "0 (don't wait), 1 to 2147483647 ticks, or 4294967295 (forever)"
+pub fn is_time(t: u32) -> bool
+    ensures { λ r. ⌜ r ≡ isTime t ⌝ }
+{
+    if t <= MAX_TICKS {
+        return true;
+    }
+    t == FOREVER
+}
+
+// A caller that would wait: 3 where its time is 0, else 11 while scheduling is held.
+pub fn of_wait(hold: u8, time: u32) -> u8
+    ensures { λ r. ⌜ r ≡ waitRefusal hold time ⌝ }
+{
+    let at_once = time == 0;
+    let held = 0 < hold;
+    if at_once {
+        return 3;
+    }
+    if held {
+        return 11;
+    }
+    0
+}
