@@ -20,7 +20,7 @@ use Rattle.text.specs.Lines.{lf, lines}
 use Rattle.record.specs.DemandRecord.{freshRecord}
 use Rattle.record.specs.declared.State.{State}
 use Rattle.syntax.specs.Ascii.{ascii}
-use Rattle.syntax.specs.Form.{longest, words, sameBytes, formOf, numbersOf, madeFrom, stepIn, stepOn}
+use Rattle.syntax.specs.Form.{longest, words, sameBytes, madeBy, numbersOf, madeFrom, stepIn, stepOn}
 use Rattle.syntax.specs.LogLine.{headerBytes, logBytes, badBytes}
 use Rattle.script.specs.LineRun.{awaiting, running, over, lineAnswered, lineFor, headLog, headStage}
 use Rattle.script.specs.WholeLog.{logFrom, logOf, wholeLog}
@@ -141,7 +141,7 @@ pieces-arrivals (p ∷ ps) s carry last (more-roomy r rs) h =
 
 -- an over-long line is no step and no first line, as an empty one is none
 empty-none : stepOn [] ≡ none
-unfolding stepOn stepIn fields pieces madeFrom formOf words sameBytes ascii numbersOf
+unfolding stepOn stepIn fields pieces madeFrom madeBy words sameBytes ascii numbersOf
 empty-none = refl
 
 long-none : (line : List ℕ) → longest < length line → stepOn line ≡ none

@@ -8,7 +8,7 @@ use Rattle.text.specs.Fields.{fields}
 use Rattle.decimal.specs.Parse.{withDigit, withDigits, parsed}
 use Rattle.rules.specs.Step.{Step, task, sem, start, lock, sleep, tick, outcome}
 use Rattle.syntax.specs.Ascii.{ascii}
-use Rattle.syntax.specs.Form.{words, sameBytes, formOf, withNumber, numbersOf, madeBy, madeFrom, stepIn, stepOn}
+use Rattle.syntax.specs.Form.{alone, withOne, withTwo, words, sameBytes, madeBy, withNumber, numbersOf, madeFrom, stepIn, stepOn}
 use Prim.Native.String.{String}
 
 pub record Example : Type 0 where
@@ -56,5 +56,5 @@ examples =
     []
 
 pub examples-read : map (λ (e : Example). stepOn (ascii (e .line))) examples ≡ map (λ (e : Example). e .read) examples
-unfolding ascii examples _and_ pieces fields withDigit withDigits parsed words sameBytes formOf withNumber numbersOf madeBy madeFrom stepIn stepOn
+unfolding ascii examples _and_ pieces fields withDigit withDigits parsed alone withOne withTwo words sameBytes madeBy withNumber numbersOf madeFrom stepIn stepOn
 examples-read = refl

@@ -17,35 +17,50 @@ use Rattle.syntax.specs.Ascii.{ascii}
 abbrev pub longest : ℕ
 longest = 80
 
--- how a step is written: its name alone, or with one or two numbers
-pub data Form : Type 0 where
-  plain : Step → Form
-  withOne : (ℕ → Step) → Form
-  withTwo : (ℕ → ℕ → Step) → Form
-
+-- a step's name, and the step that it is with its numbers: none where the name does not take such numbers
 pub record Word : Type 0 where
   pub name : List ℕ
-  pub form : Form
+  pub makes : List ℕ → Option Step
+
+-- a name alone, with one number, with two
+unfoldable pub alone : Step → List ℕ → Option Step
+alone x [] = some x
+alone x (a ∷ l) = none
+
+unfoldable pub withOne : (ℕ → Step) → List ℕ → Option Step
+withOne f [] = none
+withOne f (a ∷ []) = some (f a)
+withOne f (a ∷ b ∷ l) = none
+
+unfoldable pub withTwo : (ℕ → ℕ → Step) → List ℕ → Option Step
+withTwo f [] = none
+withTwo f (a ∷ []) = none
+withTwo f (a ∷ b ∷ []) = some (f a b)
+withTwo f (a ∷ b ∷ c ∷ l) = none
+
+-- no word takes more numbers (WrittenLaws, made-many)
+abbrev pub mostNumbers : ℕ
+mostNumbers = 2
 
 -- "a step's name above and its numbers": the steps in the order of "Steps"
 unfoldable pub words : List Word
 words =
-    record { name = ascii "task"; form = withOne task } ∷
-    record { name = ascii "mutex"; form = withOne mutex } ∷
-    record { name = ascii "sem"; form = withTwo sem } ∷
-    record { name = ascii "start"; form = plain start } ∷
-    record { name = ascii "lock"; form = withTwo lock } ∷
-    record { name = ascii "unlock"; form = withOne unlock } ∷
-    record { name = ascii "pend"; form = withTwo pend } ∷
-    record { name = ascii "post"; form = withOne post } ∷
-    record { name = ascii "flush"; form = withOne flush } ∷
-    record { name = ascii "sleep"; form = withOne sleep } ∷
-    record { name = ascii "yield"; form = plain yield } ∷
-    record { name = ascii "hold"; form = plain hold } ∷
-    record { name = ascii "free"; form = plain free } ∷
-    record { name = ascii "tick"; form = plain tick } ∷
-    record { name = ascii "level"; form = withOne level } ∷
-    record { name = ascii "outcome"; form = withOne outcome } ∷
+    record { name = ascii "task"; makes = withOne task } ∷
+    record { name = ascii "mutex"; makes = withOne mutex } ∷
+    record { name = ascii "sem"; makes = withTwo sem } ∷
+    record { name = ascii "start"; makes = alone start } ∷
+    record { name = ascii "lock"; makes = withTwo lock } ∷
+    record { name = ascii "unlock"; makes = withOne unlock } ∷
+    record { name = ascii "pend"; makes = withTwo pend } ∷
+    record { name = ascii "post"; makes = withOne post } ∷
+    record { name = ascii "flush"; makes = withOne flush } ∷
+    record { name = ascii "sleep"; makes = withOne sleep } ∷
+    record { name = ascii "yield"; makes = alone yield } ∷
+    record { name = ascii "hold"; makes = alone hold } ∷
+    record { name = ascii "free"; makes = alone free } ∷
+    record { name = ascii "tick"; makes = alone tick } ∷
+    record { name = ascii "level"; makes = withOne level } ∷
+    record { name = ascii "outcome"; makes = withOne outcome } ∷
     []
 
 -- two rows of bytes are the same
@@ -55,10 +70,10 @@ sameBytes [] (y ∷ ys) = false
 sameBytes (x ∷ xs) [] = false
 sameBytes (x ∷ xs) (y ∷ ys) = eqb x y and sameBytes xs ys
 
--- the form of the word with this name
-unfoldable pub formOf : List ℕ → List Word → Option Form
-formOf n [] = none
-formOf n (w ∷ ws) = cond (sameBytes n (w .name)) (some (w .form)) (formOf n ws)
+-- what the word with this name makes of the numbers
+unfoldable pub madeBy : List Word → List ℕ → List ℕ → Option Step
+madeBy [] n l = none
+madeBy (w ∷ ws) n l = cond (sameBytes n (w .name)) (w .makes l) (madeBy ws n l)
 
 -- "and its numbers: decimal, no sign, no needless leading zero, at most 4294967295": all of them, or none
 unfoldable pub withNumber : Number → Option (List ℕ) → Option (List ℕ)
@@ -70,27 +85,14 @@ unfoldable pub numbersOf : List (List ℕ) → Option (List ℕ)
 numbersOf [] = some []
 numbersOf (f ∷ fs) = withNumber (parsed f) (numbersOf fs)
 
--- the step of a form with just its numbers
-unfoldable pub madeBy : Form → List ℕ → Option Step
-madeBy (plain x) [] = some x
-madeBy (plain x) (a ∷ l) = none
-madeBy (withOne f) [] = none
-madeBy (withOne f) (a ∷ []) = some (f a)
-madeBy (withOne f) (a ∷ b ∷ l) = none
-madeBy (withTwo f) [] = none
-madeBy (withTwo f) (a ∷ []) = none
-madeBy (withTwo f) (a ∷ b ∷ []) = some (f a b)
-madeBy (withTwo f) (a ∷ b ∷ c ∷ l) = none
-
-unfoldable pub madeFrom : Option Form → Option (List ℕ) → Option Step
-madeFrom none l = none
-madeFrom (some f) none = none
-madeFrom (some f) (some l) = madeBy f l
+unfoldable pub madeFrom : List ℕ → Option (List ℕ) → Option Step
+madeFrom n none = none
+madeFrom n (some l) = madeBy words n l
 
 -- the step that a row of fields is: a name, then the numbers
 unfoldable pub stepIn : List (List ℕ) → Option Step
 stepIn [] = none
-stepIn (n ∷ fs) = madeFrom (formOf n words) (numbersOf fs)
+stepIn (n ∷ fs) = madeFrom n (numbersOf fs)
 
 -- the step that a line is: "Lines over 80 bytes without the LF, empty lines and anything else are answered 14"
 unfoldable pub stepOn : List ℕ → Option Step

@@ -1,24 +1,27 @@
--- What a name makes with no number, one or two: by its word where it is one's, and nothing where it is none of those that take so many.
-use mathlib.Core.Path.{_≡_, refl, ap, sym, _∙_}
+-- What is read of a name and its numbers: what the word with that name makes, and nothing where no word has it.
+use mathlib.Core.Path.{_≡_, refl, sym, _∙_}
 use mathlib.Core.List.{List, [], _∷_}
-use mathlib.Core.Bool.{Bool, true, false}
+use mathlib.Core.Bool.{Bool, true, false, cond}
 use mathlib.Core.Option.{Option, none, some}
-use Prim.Native.Nat.{ℕ}
+use Prim.Native.Nat.{ℕ, _≤_, _<_}
+use native.Mathlib.Omega.{arith}
+use lib.Dec.{eqb, ltb, leb}
+use lib.ListN.{length, getD}
+use borrow.Author.Tests.{ne-eqb, ltb-true, leb-true}
 use Rattle.lists.specs.Test.{_and_}
-use Rattle.lists.specs.TestLaws.{by-test}
 use Rattle.rules.specs.Step.{Step, task, mutex, sem, start, lock, unlock, pend, post, flush, sleep, yield, hold, free, tick, level, outcome}
 use Rattle.record.specs.DemandRecord.{requestFor}
 use Rattle.syntax.specs.Ascii.{ascii}
-use Rattle.syntax.specs.Form.{Form, Word, words, sameBytes, formOf, madeBy, madeFrom}
-use Rattle.syntax.specs.Reading.{readingFor}
+use Rattle.syntax.specs.Form.{Word, alone, withOne, withTwo, words, sameBytes, madeBy}
+use Rattle.syntax.specs.Reading.{readingFor, reading}
 use Rattle.syntax.specs.Written.{nameOf, numbersIn}
-use Rattle.syntax.specs.SameLaws.{same-equal}
+use Rattle.syntax.specs.SameLaws.{same-equal, same-length}
 use Rattle.syntax.specs.declared.read.Reading.{Reading}  -- keep
 use Rattle.syntax.specs.declared.read.Reading.the-variants.{Made, Malformed}  -- keep
 
 -- each step is what its word makes of its numbers
-pub made-back : (x : Step) → madeFrom (formOf (nameOf x) words) (some (numbersIn x)) ≡ some x
-unfolding ascii _and_ nameOf numbersIn words sameBytes formOf madeBy madeFrom
+pub made-back : (x : Step) → madeBy words (nameOf x) (numbersIn x) ≡ some x
+unfolding ascii _and_ nameOf numbersIn alone withOne withTwo words sameBytes madeBy
 made-back (task p) = refl
 made-back (mutex k) = refl
 made-back (sem n m) = refl
@@ -36,35 +39,55 @@ made-back tick = refl
 made-back (level i) = refl
 made-back (outcome i) = refl
 
--- what is read of a name and its numbers
-abbrev pub read : List ℕ → List ℕ → Reading
-read n l = readingFor (madeFrom (formOf n words) (some l))
+-- a step where there are as many numbers as its word takes
+abbrev readIf : Bool → Step → Reading
+readIf fits x = cond fits (Made (requestFor x)) Malformed
 
--- each step is read of its own name and numbers
-pub read-step : (x : Step) → Made (requestFor x) ≡ read (nameOf x) (numbersIn x)
-unfolding readingFor
-read-step x = rw (made-back x)
+pub alone-read : (x : Step) (l : List ℕ) → readIf (eqb (length l) 0) x ≡ readingFor (alone x l)
+unfolding alone readingFor
+alone-read x [] = refl
+alone-read x (a ∷ l) = rw (ne-eqb (length (a ∷ l)) 0 (λ h. omega arith))
 
--- a name is what it was found to be
-pub read-found : (m n l : List ℕ) {b : Bool} {x : Reading} → x ≡ read m l → b ≡ sameBytes n m → b ≡ true → x ≡ read n l
-read-found m n l r e t = r ∙ ap (λ (k : List ℕ). read k l) (sym (same-equal n m (sym e ∙ t)))
+pub one-read : (f : ℕ → Step) (l : List ℕ) {a : ℕ} → a ≡ getD l 0 0 → readIf (eqb (length l) 1) (f a) ≡ readingFor (withOne f l)
+unfolding withOne readingFor
+one-read f [] e = refl
+one-read f (c ∷ []) e = rw e
+one-read f (c ∷ d ∷ l) e = rw (ne-eqb (length (c ∷ d ∷ l)) 1 (λ h. omega arith))
 
--- a word makes nothing of a name and numbers: it was found to have another name, or takes other numbers
-pub data Not (n l : List ℕ) (w : Word) : Type 0 where
-  differs : {b : Bool} → b ≡ sameBytes n (w .name) → b ≡ false → Not n l w
-  unfit : madeBy (w .form) l ≡ none → Not n l w
+pub two-read : (f : ℕ → ℕ → Step) (l : List ℕ) {a b : ℕ} → a ≡ getD l 0 0 → b ≡ getD l 1 0 → readIf (eqb (length l) 2) (f a b) ≡ readingFor (withTwo f l)
+unfolding withTwo readingFor
+two-read f [] e g = refl
+two-read f (c ∷ []) e g = refl
+two-read f (c ∷ d ∷ []) e g = rw (e, g)
+two-read f (c ∷ d ∷ i ∷ l) e g = rw (ne-eqb (length (c ∷ d ∷ i ∷ l)) 2 (λ h. omega arith))
 
+-- a name that was found to be m makes what m makes
+pub read-found : (m n l : List ℕ) {o : Option Step} {b : Bool} {r : Reading} → b ≡ sameBytes n m → b ≡ true → r ≡ readingFor o → madeBy words m l ≡ o → r ≡ reading n l
+unfolding reading
+read-found m n l e t h w = rw (same-equal n m (sym e ∙ t), w) h
+
+-- a claim about each word
 infixr 5 _also_
-pub data None (n l : List ℕ) : List Word → Type 0 where
-  end : None n l []
-  _also_ : {w : Word} {ws : List Word} → Not n l w → None n l ws → None n l (w ∷ ws)
+pub data Each (P : Word → Type 0) : List Word → Type 0 where
+  end : Each P []
+  _also_ : {w : Word} {ws : List Word} → P w → Each P ws → Each P (w ∷ ws)
 
-none-made : {n l : List ℕ} {ws : List Word} → None n l ws → madeFrom (formOf n ws) (some l) ≡ none
-unfolding formOf madeFrom
-none-made end = refl
-none-made (differs e t also p) = rw (sym e ∙ t) (none-made p)
-none-made {n} {l} (_also_ {w} {ws} (unfit e) p) = by-test (λ (o : Option Form). madeFrom o (some l) ≡ none) (sameBytes n (w .name)) (λ h. e) (λ h. none-made p)
+-- a name that is shorter than a word's, or longer
+pub shorter : (k : ℕ) (n m : List ℕ) → length n ≤ k → ltb k (length m) ≡ true → sameBytes n m ≡ false
+shorter k n m h e = same-length n m (λ f. omega (arith, ltb-true k (length m) e))
 
-pub read-none : (n l : List ℕ) → None n l words → Malformed ≡ read n l
-unfolding readingFor
-read-none n l p = rw (none-made p)
+pub longer : (k : ℕ) (n m : List ℕ) → k < length n → leb (length m) k ≡ true → sameBytes n m ≡ false
+longer k n m h e = same-length n m (λ f. omega (arith, leb-true (length m) k e))
+
+-- a name that is another than the word's
+abbrev Other : List ℕ → Word → Type 0
+Other n w = sameBytes n (w .name) ≡ false
+
+none-made : (n l : List ℕ) {ws : List Word} → Each (Other n) ws → madeBy ws n l ≡ none
+unfolding madeBy
+none-made n l end = refl
+none-made n l (e also p) = rw e (none-made n l p)
+
+pub read-none : (n l : List ℕ) → Each (Other n) words → Malformed ≡ reading n l
+unfolding readingFor reading
+read-none n l p = rw (none-made n l p)

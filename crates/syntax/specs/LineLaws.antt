@@ -1,126 +1,101 @@
--- What a line is by the number of its fields: nothing where it is too long or has too many, else what its name makes of its numbers.
-use mathlib.Core.Path.{_≡_, refl}
-use mathlib.Core.List.{List, [], _∷_}
+-- What a line is while its numbers are read: what its name makes of the numbers so far and those of the fields that are left.
+use mathlib.Core.Path.{_≡_, refl, ap, sym, _∙_}
+use mathlib.Core.List.{List, [], _∷_, _++_, append-nil}
+use mathlib.Core.Logic.{inl, inr}
 use mathlib.Core.Option.{Option, none, some}
-use Prim.Native.Nat.{ℕ, _≤_, _<_}
+use Prim.Native.Nat.{ℕ, _+_, _≤_, _<_}
 use native.Mathlib.Omega.{arith}
-use lib.ListN.{length, getD}
-use borrow.Author.Tests.{le-leb, lt-leb}
-use Rattle.text.specs.Fields.{fields, fieldAt}
-use Rattle.text.specs.FieldsLaws.{fields-some}
+use lib.Dec.{ltb}
+use lib.ListN.{length, drop, length-append, length-drop}
+use lib.Seq.{append-snoc}
+use borrow.Author.Tests.{le-leb, lt-leb, le-ltb, lt-ltb, ltb-true, ltb-false}
+use Rattle.lists.specs.TestLaws.{which}
+use Rattle.text.specs.Cut.{upTo, findFrom}
+use Rattle.text.specs.CutLaws.{upTo-most}
+use Rattle.text.specs.Fields.{tab, fields, fieldAt}
+use Rattle.text.specs.FieldsLaws.{fields-next, fields-last, field-first}
 use Rattle.decimal.specs.Parse.{parsed}
 use Rattle.decimal.specs.declared.Number.{Number}  -- keep
 use Rattle.decimal.specs.declared.Number.the-variants.{Value, Bad}  -- keep
-use Rattle.rules.specs.Step.{Step}
-use Rattle.syntax.specs.Form.{longest, Form, plain, withOne, withTwo, words, formOf, withNumber, numbersOf, madeBy, madeFrom, stepIn, stepOn}
-use Rattle.syntax.specs.Reading.{readingFor}
-use Rattle.syntax.specs.FormLaws.{read}
+use Rattle.syntax.specs.Form.{longest, mostNumbers, withNumber, numbersOf, madeFrom, stepIn, stepOn}
+use Rattle.syntax.specs.Unread.{unread, behindThese, madeWith}
+use Rattle.syntax.specs.Reading.{readingFor, reading}
+use Rattle.syntax.specs.WrittenLaws.{made-many}
 use Rattle.syntax.specs.declared.read.Reading.the-variants.{Malformed}  -- keep
 
--- without all numbers, nothing is made
-made-none : (o : Option Form) → madeFrom o none ≡ none
-unfolding madeFrom
-made-none none = refl
-made-none (some f) = refl
+-- the field that begins at a place, and those that are left where it ends
+fields-from : (line : List ℕ) (at : ℕ) → fields (drop at line) ≡ upTo tab (drop at line) ∷ unread line (findFrom tab line at)
+unfolding unread
+fields-from line at = elim (which (ltb (findFrom tab line at) (length line))) [
+  | inl e ↦ rw e (fields-next line at (ltb-true _ _ e))
+  | inr e ↦ rw e (fields-last line at (ltb-false _ _ e))
+]
 
-number-none : (x : Number) → withNumber x none ≡ none
-unfolding withNumber
-number-none (Value n) = refl
-number-none Bad = refl
+unread-tab : (line : List ℕ) (at : ℕ) → at < length line → unread line at ≡ fields (drop (at + 1) line)
+unfolding unread
+unread-tab line at h = rw (lt-ltb _ _ h)
 
--- three numbers are too many
-three-none : (f : Form) (a b c : ℕ) (l : List ℕ) → madeBy f (a ∷ b ∷ c ∷ l) ≡ none
-unfolding madeBy
-three-none (plain x) a b c l = refl
-three-none (withOne f) a b c l = refl
-three-none (withTwo f) a b c l = refl
+unread-next : (line : List ℕ) (at : ℕ) → at < length line
+    → unread line at ≡ upTo tab (drop (at + 1) line) ∷ unread line (findFrom tab line (at + 1))
+unread-next line at h = unread-tab line at h ∙ fields-from line (at + 1)
 
-many-none : (o : Option Form) (x y z : Number) (l : Option (List ℕ)) → madeFrom o (withNumber x (withNumber y (withNumber z l))) ≡ none
-unfolding withNumber madeFrom
-many-none none x y z l = refl
-many-none (some f) Bad y z l = refl
-many-none (some f) (Value a) Bad z l = refl
-many-none (some f) (Value a) (Value b) Bad l = refl
-many-none (some f) (Value a) (Value b) (Value c) none = refl
-many-none (some f) (Value a) (Value b) (Value c) (some l) = three-none f a b c l
+unread-end : (line : List ℕ) (at : ℕ) → length line ≤ at → unread line at ≡ []
+unfolding unread
+unread-end line at h = rw (le-ltb _ _ h)
 
--- by the number of fields
-abbrev field : List (List ℕ) → ℕ → List ℕ
-field fs n = getD fs n []
+-- no number yet, and one more
+behind-none : (o : Option (List ℕ)) → behindThese [] o ≡ o
+unfolding behindThese
+behind-none none = refl
+behind-none (some k) = refl
 
-abbrev made : List (List ℕ) → List ℕ → Option Step
-made fs l = madeFrom (formOf (field fs 0) words) (some l)
+behind-value : (l : List ℕ) (v : ℕ) (o : Option (List ℕ)) → behindThese l (withNumber (Value v) o) ≡ behindThese (l ++ v ∷ []) o
+unfolding behindThese withNumber
+behind-value l v none = refl
+behind-value l v (some k) = ap some (sym (append-snoc l v k))
 
-in-one : (fs : List (List ℕ)) → length fs ≡ 1 → stepIn fs ≡ made fs []
-unfolding stepIn numbersOf
-in-one [] h = absurd (omega arith)
-in-one (n ∷ []) h = refl
-in-one (n ∷ f ∷ fs) h = absurd (omega arith)
+-- as many numbers as a word takes, and a field more
+many-none : (n l : List ℕ) (x : Number) (o : Option (List ℕ)) → length l ≡ mostNumbers → madeFrom n (behindThese l (withNumber x o)) ≡ none
+unfolding madeFrom behindThese withNumber
+many-none n l Bad o h = refl
+many-none n l (Value v) none h = refl
+many-none n l (Value v) (some k) h = made-many n (l ++ v ∷ k) (omega (arith, length-append l (v ∷ k)))
 
-in-bad : (fs : List (List ℕ)) → 1 < length fs → parsed (field fs 1) ≡ Bad → stepIn fs ≡ none
-unfolding stepIn numbersOf withNumber
-in-bad [] h e = absurd (omega arith)
-in-bad (n ∷ []) h e = absurd (omega arith)
-in-bad (n ∷ f ∷ fs) h e = rw e (made-none _)
-
-in-two : (fs : List (List ℕ)) (a : ℕ) → length fs ≡ 2 → parsed (field fs 1) ≡ Value a → stepIn fs ≡ made fs (a ∷ [])
-unfolding stepIn numbersOf withNumber
-in-two [] a h e = absurd (omega arith)
-in-two (n ∷ []) a h e = absurd (omega arith)
-in-two (n ∷ f ∷ []) a h e = rw e
-in-two (n ∷ f ∷ g ∷ fs) a h e = absurd (omega arith)
-
-in-bad-2 : (fs : List (List ℕ)) → 2 < length fs → parsed (field fs 2) ≡ Bad → stepIn fs ≡ none
-unfolding stepIn numbersOf withNumber
-in-bad-2 [] h e = absurd (omega arith)
-in-bad-2 (n ∷ []) h e = absurd (omega arith)
-in-bad-2 (n ∷ f ∷ []) h e = absurd (omega arith)
-in-bad-2 (n ∷ f ∷ g ∷ fs) h e = rw (e, number-none (parsed f)) (made-none _)
-
-in-three : (fs : List (List ℕ)) (a b : ℕ) → length fs ≡ 3 → parsed (field fs 1) ≡ Value a → parsed (field fs 2) ≡ Value b → stepIn fs ≡ made fs (a ∷ b ∷ [])
-unfolding stepIn numbersOf withNumber
-in-three [] a b h e k = absurd (omega arith)
-in-three (n ∷ []) a b h e k = absurd (omega arith)
-in-three (n ∷ f ∷ []) a b h e k = absurd (omega arith)
-in-three (n ∷ f ∷ g ∷ []) a b h e k = rw (e, k)
-in-three (n ∷ f ∷ g ∷ i ∷ fs) a b h e k = absurd (omega arith)
-
-in-many : (fs : List (List ℕ)) → 3 < length fs → stepIn fs ≡ none
-unfolding stepIn numbersOf
-in-many [] h = absurd (omega arith)
-in-many (n ∷ []) h = absurd (omega arith)
-in-many (n ∷ f ∷ []) h = absurd (omega arith)
-in-many (n ∷ f ∷ g ∷ []) h = absurd (omega arith)
-in-many (n ∷ f ∷ g ∷ i ∷ fs) h = many-none (formOf n words) (parsed f) (parsed g) (parsed i) (numbersOf fs)
-
--- the same of a line
+-- a line that is too long
 pub line-long : (line : List ℕ) → longest < length line → Malformed ≡ readingFor (stepOn line)
 unfolding stepOn readingFor
 line-long line h = rw (lt-leb _ _ h)
 
--- n is the number of its fields
-module _ (line : List ℕ) (n : ℕ) (h : length line ≤ longest) (k : n ≡ length (fields line)) where
-  pub line-many : 3 < n → Malformed ≡ readingFor (stepOn line)
-  unfolding stepOn readingFor
-  line-many m = rw (le-leb _ _ h, in-many (fields line) (omega arith))
+-- where the name ends, no number is read yet
+pub line-name : (line n : List ℕ) → length line ≤ longest → n ≡ fieldAt line 0 → madeWith n [] (length n) line ≡ stepOn line
+unfolding stepIn stepOn
+line-name line n h e =
+    let f : n ≡ upTo tab (drop 0 line) = e ∙ field-first line 0 in
+    let z : findFrom tab line 0 ≡ length n = rw f (omega arith) in
+    let g : fields line ≡ n ∷ unread line (length n) = fields-from line 0 ∙ rw (z, f) in
+    rw (le-leb _ _ h, g) (ap (madeFrom n) (behind-none _))
 
-  pub line-one : n ≡ 1 → read (fieldAt line 0) [] ≡ readingFor (stepOn line)
-  unfolding stepOn
-  line-one o = rw (le-leb _ _ h, in-one (fields line) (omega arith))
+-- where a field ends, with the numbers so far
+module _ (line n l : List ℕ) (at : ℕ) (h : madeWith n l at line ≡ stepOn line) where
+  -- at the line's end these are all
+  pub line-end : length line ≤ at → reading n l ≡ readingFor (stepOn line)
+  unfolding reading behindThese numbersOf madeFrom
+  line-end k = rw (← h, unread-end line at k, append-nil l)
 
-  pub line-bad : (n ≡ 1 → ⊥) → parsed (fieldAt line 1) ≡ Bad → Malformed ≡ readingFor (stepOn line)
-  unfolding stepOn readingFor
-  line-bad o e = rw (le-leb _ _ h, in-bad (fields line) (omega (arith, fields-some line)) e)
+  -- a field more than a word takes
+  pub line-many : at < length line → length l ≡ mostNumbers → Malformed ≡ readingFor (stepOn line)
+  unfolding numbersOf readingFor
+  line-many k m = rw (← h, unread-next line at k, many-none)
 
-  pub line-two : (a : ℕ) → n ≡ 2 → parsed (fieldAt line 1) ≡ Value a → read (fieldAt line 0) (a ∷ []) ≡ readingFor (stepOn line)
-  unfolding stepOn
-  line-two a t e = rw (le-leb _ _ h, in-two (fields line) a (omega arith) e)
+  -- the field that is next: it ends within the line; it is no number, or one more
+  module _ (k : at < length line) (field : List ℕ) (f : field ≡ upTo tab (drop (at + 1) line)) where
+    pub line-within : at + 1 + length field ≤ length line
+    line-within = rw f (omega (arith, upTo-most tab (drop (at + 1) line), length-drop (at + 1) line))
 
-  pub line-bad-2 : (n ≡ 1 → ⊥) → (n ≡ 2 → ⊥) → parsed (fieldAt line 2) ≡ Bad → Malformed ≡ readingFor (stepOn line)
-  unfolding stepOn readingFor
-  line-bad-2 o t e = rw (le-leb _ _ h, in-bad-2 (fields line) (omega (arith, fields-some line)) e)
+    pub line-bad : parsed field ≡ Bad → Malformed ≡ readingFor (stepOn line)
+    unfolding behindThese withNumber numbersOf madeFrom readingFor
+    line-bad e = rw (← h, unread-next line at k, ← f, e)
 
-  pub line-three : (a b : ℕ) → (n ≡ 1 → ⊥) → (n ≡ 2 → ⊥) → n ≤ 3 → parsed (fieldAt line 1) ≡ Value a → parsed (fieldAt line 2) ≡ Value b
-      → read (fieldAt line 0) (a ∷ b ∷ []) ≡ readingFor (stepOn line)
-  unfolding stepOn
-  line-three a b o t m e f = rw (le-leb _ _ h, in-three (fields line) a b (omega (arith, fields-some line)) e f)
+    pub line-number : (v : ℕ) → parsed field ≡ Value v → madeWith n (l ++ v ∷ []) (at + 1 + length field) line ≡ stepOn line
+    unfolding numbersOf
+    line-number v e = ap (madeFrom n) (sym (rw (unread-next line at k, ← f, e) (behind-value l v _))) ∙ h

@@ -4,7 +4,7 @@ use mathlib.Core.List.{List, [], _∷_, _++_, map, append-nil}
 use mathlib.Core.Bool.{false}
 use mathlib.Core.Logic.{inl, inr}
 use mathlib.Core.Option.{Option, none, some}
-use Prim.Native.Nat.{ℕ, zero, suc, _+_, _*_, _/_, _≤_}
+use Prim.Native.Nat.{ℕ, zero, suc, _+_, _*_, _/_, _≤_, _<_}
 use native.Mathlib.Omega.{arith}
 use lib.Dec.{eqb, ltb, leb}
 use lib.ListN.{length, getD, length-append}
@@ -21,9 +21,9 @@ use Rattle.decimal.specs.declared.Number.{Number}  -- keep
 use Rattle.decimal.specs.declared.Number.the-variants.{Value, Bad}  -- keep
 use Rattle.rules.specs.Step.{Step, task, mutex, sem, start, lock, unlock, pend, post, flush, sleep, yield, hold, free, tick, level, outcome}
 use Rattle.syntax.specs.Ascii.{ascii}
-use Rattle.syntax.specs.Form.{longest, Form, plain, withOne, withTwo, Word, words, sameBytes, formOf, withNumber, numbersOf, madeBy, madeFrom, stepIn, stepOn}
+use Rattle.syntax.specs.Form.{longest, mostNumbers, Word, alone, withOne, withTwo, words, sameBytes, madeBy, withNumber, numbersOf, madeFrom, stepIn, stepOn}
 use Rattle.syntax.specs.SameLaws.{same-equal}
-use Rattle.syntax.specs.FormLaws.{made-back}
+use Rattle.syntax.specs.FormLaws.{made-back, Each, end, _also_}
 use Rattle.syntax.specs.Written.{nameOf, numbersIn, rowOf, lineOf, Within, NumbersFit}
 
 -- rows without a tab, joined by tabs and cut again
@@ -129,7 +129,7 @@ line-short x = omega (arith, length-append (nameOf x) (behind tab (map decimal (
 
 -- a step's line is that step
 pub written-read : (x : Step) → NumbersFit x → stepOn (lineOf x) ≡ some x
-unfolding stepOn stepIn lineOf
+unfolding madeFrom stepOn stepIn lineOf
 written-read x h =
     let fits : length (lineOf x) ≤ longest = omega (arith, line-short x) in
     let row = fields-row (nameOf x) (map decimal (numbersIn x)) (free-name x) (free-numbers (numbersIn x)) in
@@ -137,63 +137,61 @@ written-read x h =
 
 -- what a word makes has the word's name and just the numbers given
 abbrev Good : Word → Type 0
-Good w = (l : List ℕ) (x : Step) → madeBy (w .form) l ≡ some x → (nameOf x ≡ w .name) × (numbersIn x ≡ l)
+Good w = (l : List ℕ) (x : Step) → w .makes l ≡ some x → (nameOf x ≡ w .name) × (numbersIn x ≡ l)
 
-good-plain : (n : List ℕ) (y : Step) → nameOf y ≡ n → numbersIn y ≡ [] → Good (record { name = n; form = plain y })
-unfolding madeBy
-good-plain n y e f [] x h = let k : y ≡ x = some-same h in (rw k at e, rw k at f)
-good-plain n y e f (a ∷ l) x h = none-some refl h
+good-alone : (n : List ℕ) (y : Step) → nameOf y ≡ n → numbersIn y ≡ [] → Good (record { name = n; makes = alone y })
+unfolding alone
+good-alone n y e f [] x h = let k : y ≡ x = some-same h in (rw k at e, rw k at f)
+good-alone n y e f (a ∷ l) x h = none-some refl h
 
-good-one : (n : List ℕ) (g : ℕ → Step) → ((a : ℕ) → (nameOf (g a) ≡ n) × (numbersIn (g a) ≡ a ∷ [])) → Good (record { name = n; form = withOne g })
-unfolding madeBy
+good-one : (n : List ℕ) (g : ℕ → Step) → ((a : ℕ) → (nameOf (g a) ≡ n) × (numbersIn (g a) ≡ a ∷ [])) → Good (record { name = n; makes = withOne g })
+unfolding withOne
 good-one n g e [] x h = none-some refl h
 good-one n g e (a ∷ []) x h = let k : g a ≡ x = some-same h in rw k at (e a)
 good-one n g e (a ∷ b ∷ l) x h = none-some refl h
 
-good-two : (n : List ℕ) (g : ℕ → ℕ → Step) → ((a b : ℕ) → (nameOf (g a b) ≡ n) × (numbersIn (g a b) ≡ a ∷ b ∷ [])) → Good (record { name = n; form = withTwo g })
-unfolding madeBy
+good-two : (n : List ℕ) (g : ℕ → ℕ → Step) → ((a b : ℕ) → (nameOf (g a b) ≡ n) × (numbersIn (g a b) ≡ a ∷ b ∷ [])) → Good (record { name = n; makes = withTwo g })
+unfolding withTwo
 good-two n g e [] x h = none-some refl h
 good-two n g e (a ∷ []) x h = none-some refl h
 good-two n g e (a ∷ b ∷ []) x h = let k : g a b ≡ x = some-same h in rw k at (e a b)
 good-two n g e (a ∷ b ∷ c ∷ l) x h = none-some refl h
 
-infixr 5 _also_
-data EachGood : List Word → Type 0 where
-  end : EachGood []
-  _also_ : {w : Word} {ws : List Word} → Good w → EachGood ws → EachGood (w ∷ ws)
-
-words-good : EachGood words
+words-good : Each Good words
 unfolding words nameOf numbersIn
 words-good =
     good-one _ task (λ a. (refl, refl)) also
     good-one _ mutex (λ a. (refl, refl)) also
     good-two _ sem (λ a b. (refl, refl)) also
-    good-plain _ start refl refl also
+    good-alone _ start refl refl also
     good-two _ lock (λ a b. (refl, refl)) also
     good-one _ unlock (λ a. (refl, refl)) also
     good-two _ pend (λ a b. (refl, refl)) also
     good-one _ post (λ a. (refl, refl)) also
     good-one _ flush (λ a. (refl, refl)) also
     good-one _ sleep (λ a. (refl, refl)) also
-    good-plain _ yield refl refl also
-    good-plain _ hold refl refl also
-    good-plain _ free refl refl also
-    good-plain _ tick refl refl also
+    good-alone _ yield refl refl also
+    good-alone _ hold refl refl also
+    good-alone _ free refl refl also
+    good-alone _ tick refl refl also
     good-one _ level (λ a. (refl, refl)) also
     good-one _ outcome (λ a. (refl, refl)) also
     end
 
-form-good : (n : List ℕ) {ws : List Word} → EachGood ws → (f : Form) → formOf n ws ≡ some f
-    → (l : List ℕ) (x : Step) → madeBy f l ≡ some x → (nameOf x ≡ n) × (numbersIn x ≡ l)
-unfolding formOf
-form-good n end f h l x m = none-some refl h
-form-good n (_also_ {w} {ws} g gs) f h l x m = elim (which (sameBytes n (w .name))) [
-  | inl e ↦
-      let k : w .form ≡ f = some-same (rw e at h) in
-      let r = g l x (rw k m) in
-      (r .0 ∙ sym (same-equal n (w .name) e), r .1)
-  | inr e ↦ form-good n gs f (rw e at h) l x m
+made-good : (n l : List ℕ) (x : Step) {ws : List Word} → Each Good ws → madeBy ws n l ≡ some x → (nameOf x ≡ n) × (numbersIn x ≡ l)
+unfolding madeBy
+made-good n l x end h = none-some refl h
+made-good n l x (_also_ {w} {ws} g gs) h = elim (which (sameBytes n (w .name))) [
+  | inl e ↦ (let r = g l x (rw e at h) in (r .0 ∙ sym (same-equal n (w .name) e), r .1))
+  | inr e ↦ made-good n l x gs (rw e at h)
 ]
+
+-- so no word takes more numbers than a step has at most
+pub made-many : (n l : List ℕ) → mostNumbers < length l → madeBy words n l ≡ none
+made-many n l h = by-made (madeBy words n l) refl where
+  by-made : (o : Option Step) → madeBy words n l ≡ o → o ≡ none
+  by-made none e = refl
+  by-made (some x) e = absurd (let r = made-good n l x words-good e in omega (arith, ap length (r .1), row-length x))
 
 -- numbers that are read are written the same again
 number-split : {G : Type 0} (y : Number) (o : Option (List ℕ)) (l : List ℕ) → withNumber y o ≡ some l
@@ -215,18 +213,17 @@ numbers-read (f ∷ fs) l h = number-split (parsed f) (numbersOf fs) l h (λ n k
     let r = numbers-read fs k g in
     (rw (← s) (within-more n k (p .0) (r .0)), rw (← s, p .1, r .1)))
 
-made-split : {G : Type 0} (o : Option Form) (q : Option (List ℕ)) (x : Step) → madeFrom o q ≡ some x
-    → ((f : Form) (l : List ℕ) → o ≡ some f → q ≡ some l → madeBy f l ≡ some x → G) → G
+made-split : {G : Type 0} (n : List ℕ) (q : Option (List ℕ)) (x : Step) → madeFrom n q ≡ some x
+    → ((l : List ℕ) → q ≡ some l → madeBy words n l ≡ some x → G) → G
 unfolding madeFrom
-made-split none q x h g = none-some refl h
-made-split (some f) none x h g = none-some refl h
-made-split (some f) (some l) x h g = g f l refl refl h
+made-split n none x h g = none-some refl h
+made-split n (some l) x h g = g l refl h
 
 row-read : (fs : List (List ℕ)) (x : Step) → stepIn fs ≡ some x → NumbersFit x × (rowOf x ≡ fs)
 unfolding stepIn
 row-read [] x h = none-some refl h
-row-read (n ∷ fs) x h = made-split (formOf n words) (numbersOf fs) x h (λ f l e g m.
-    let r = form-good n words-good f e l x m in
+row-read (n ∷ fs) x h = made-split n (numbersOf fs) x h (λ l g m.
+    let r = made-good n l x words-good m in
     let s = numbers-read fs l g in
     (rw (r .1) (s .0), rw (r .0, r .1, s .1)))
 

@@ -1,13 +1,22 @@
 // A line of a script to a step's request: a name and its numbers, parted by tabs.
 ghost use mathlib.Core.Path.{_≡_};
-ghost use mathlib.Core.List.{[], _∷_};
-ghost use mathlib.Core.Option.{some};
-ghost use Rattle.syntax.specs.Form.{words, sameBytes, formOf, madeFrom, stepOn};
-ghost use Rattle.syntax.specs.Reading.{readingFor};
+ghost use mathlib.Core.Bool.{cond};
+ghost use Prim.Native.Nat.{_≤_, _<_};
+ghost use lib.ListN.{length, getD};
+ghost use Rattle.syntax.specs.Form.{sameBytes, stepOn};
+ghost use Rattle.syntax.specs.Reading.{readingFor, reading, shortName};
 use arrive::LONGEST;
 use decimal::Number;
 use record::Request;
+use text::cut;
 use text::fields;
+use text::fields::TAB;
+
+// The most numbers that a step takes.
+const MOST_NUMBERS: usize = 2;
+
+// The most bytes of a short name. Half of the words are short, so a name is compared with half of the words only.
+const SHORT: usize = 4;
 
 // A line read: a step's request, or nothing of the form.
 pub enum Reading {
@@ -32,104 +41,133 @@ pub fn same(a: &[u8], b: &[u8]) -> bool
     true
 }
 
-// A name alone.
-fn plain(name: &[u8]) -> Reading
-    ensures { λ r. ⌜ r ≡ readingFor (madeFrom (formOf (now (name .entry)) words) (some [])) ⌝ }
+// The i-th number, or 0 where there are not so many.
+fn number(numbers: &[u32], i: usize) -> u32
+    ensures { λ r. ⌜ r ≡ getD (now (numbers .entry)) i 0 ⌝ }
 {
-    if same(name, b"start") {
-        return Reading::Made(Request::Start);
+    if numbers.len() <= i {
+        return 0;
     }
-    if same(name, b"yield") {
-        return Reading::Made(Request::Yield);
-    }
-    if same(name, b"hold") {
-        return Reading::Made(Request::Hold);
-    }
-    if same(name, b"free") {
-        return Reading::Made(Request::Free);
-    }
-    if same(name, b"tick") {
-        return Reading::Made(Request::Tick);
+    numbers[i]
+}
+
+// A word's request where it takes as many numbers as there are.
+fn made_if(fits: bool, request: Request) -> Reading
+    ensures { λ r. ⌜ r ≡ cond fits (Reading.Made request) Reading.Malformed ⌝ }
+{
+    if fits {
+        return Reading::Made(request);
     }
     Reading::Malformed
 }
 
-// A name and one number.
-fn with_one(name: &[u8], a: u32) -> Reading
-    ensures { λ r. ⌜ r ≡ readingFor (madeFrom (formOf (now (name .entry)) words) (some (a ∷ []))) ⌝ }
+// A short name with its numbers. Each word decides how many it takes.
+fn short_word(name: &[u8], numbers: &[u32]) -> Reading
+    requires { ⌜ length (now name) ≤ shortName ⌝ }
+    ensures { λ r. ⌜ r ≡ reading (now (name .entry)) (now (numbers .entry)) ⌝ }
 {
+    let n = numbers.len();
     if same(name, b"task") {
-        return Reading::Made(Request::Task { priority: a });
+        let priority = number(numbers, 0);
+        return made_if(n == 1, Request::Task { priority });
     }
-    if same(name, b"mutex") {
-        return Reading::Made(Request::Mutex { kind: a });
-    }
-    if same(name, b"unlock") {
-        return Reading::Made(Request::Unlock { mutex: a });
-    }
-    if same(name, b"post") {
-        return Reading::Made(Request::Post { semaphore: a });
-    }
-    if same(name, b"flush") {
-        return Reading::Made(Request::Flush { semaphore: a });
-    }
-    if same(name, b"sleep") {
-        return Reading::Made(Request::Sleep { time: a });
-    }
-    if same(name, b"level") {
-        return Reading::Made(Request::Level { task: a });
-    }
-    if same(name, b"outcome") {
-        return Reading::Made(Request::Outcome { task: a });
-    }
-    Reading::Malformed
-}
-
-// A name and two numbers.
-fn with_two(name: &[u8], a: u32, b: u32) -> Reading
-    ensures { λ r. ⌜ r ≡ readingFor (madeFrom (formOf (now (name .entry)) words) (some (a ∷ b ∷ []))) ⌝ }
-{
     if same(name, b"sem") {
-        return Reading::Made(Request::Sem {
-            count: a,
-            maximum: b,
-        });
+        let count = number(numbers, 0);
+        let maximum = number(numbers, 1);
+        return made_if(n == 2, Request::Sem { count, maximum });
     }
     if same(name, b"lock") {
-        return Reading::Made(Request::Lock { mutex: a, time: b });
+        let mutex = number(numbers, 0);
+        let time = number(numbers, 1);
+        return made_if(n == 2, Request::Lock { mutex, time });
     }
     if same(name, b"pend") {
-        return Reading::Made(Request::Pend {
-            semaphore: a,
-            time: b,
-        });
+        let semaphore = number(numbers, 0);
+        let time = number(numbers, 1);
+        return made_if(n == 2, Request::Pend { semaphore, time });
+    }
+    if same(name, b"post") {
+        let semaphore = number(numbers, 0);
+        return made_if(n == 1, Request::Post { semaphore });
+    }
+    if same(name, b"hold") {
+        return made_if(n == 0, Request::Hold);
+    }
+    if same(name, b"free") {
+        return made_if(n == 0, Request::Free);
+    }
+    if same(name, b"tick") {
+        return made_if(n == 0, Request::Tick);
     }
     Reading::Malformed
 }
 
-// The step that a line is.
+// A longer name with its numbers.
+fn long_word(name: &[u8], numbers: &[u32]) -> Reading
+    requires { ⌜ shortName < length (now name) ⌝ }
+    ensures { λ r. ⌜ r ≡ reading (now (name .entry)) (now (numbers .entry)) ⌝ }
+{
+    let n = numbers.len();
+    if same(name, b"mutex") {
+        let kind = number(numbers, 0);
+        return made_if(n == 1, Request::Mutex { kind });
+    }
+    if same(name, b"start") {
+        return made_if(n == 0, Request::Start);
+    }
+    if same(name, b"unlock") {
+        let mutex = number(numbers, 0);
+        return made_if(n == 1, Request::Unlock { mutex });
+    }
+    if same(name, b"flush") {
+        let semaphore = number(numbers, 0);
+        return made_if(n == 1, Request::Flush { semaphore });
+    }
+    if same(name, b"sleep") {
+        let time = number(numbers, 0);
+        return made_if(n == 1, Request::Sleep { time });
+    }
+    if same(name, b"yield") {
+        return made_if(n == 0, Request::Yield);
+    }
+    if same(name, b"level") {
+        let task = number(numbers, 0);
+        return made_if(n == 1, Request::Level { task });
+    }
+    if same(name, b"outcome") {
+        let task = number(numbers, 0);
+        return made_if(n == 1, Request::Outcome { task });
+    }
+    Reading::Malformed
+}
+
+// The step that a line is. Each field is cut off where the one before it ends, so that the line is gone through once.
 pub fn read_line(line: &[u8]) -> Reading
     ensures { λ r. ⌜ r ≡ readingFor (stepOn (now (line .entry))) ⌝ }
 {
     if LONGEST < line.len() {
         return Reading::Malformed;
     }
-    let n = fields::count(line);
-    if 3 < n {
-        return Reading::Malformed;
-    }
     let name = fields::nth(line, 0);
-    if n == 1 {
-        return plain(name);
+    let mut values = [0; MOST_NUMBERS];
+    let mut n = 0;
+    let mut at = name.len();
+    while at < line.len() {
+        if n == MOST_NUMBERS {
+            return Reading::Malformed;
+        }
+        let start = at + 1;
+        let field = cut::piece(line, start, TAB);
+        let Number::Value(value) = decimal::parse(field) else {
+            return Reading::Malformed;
+        };
+        values[n] = value;
+        n += 1;
+        at = start + field.len();
     }
-    let Number::Value(a) = decimal::parse(fields::nth(line, 1)) else {
-        return Reading::Malformed;
-    };
-    if n == 2 {
-        return with_one(name, a);
+    let numbers = &values[..n];
+    if name.len() <= SHORT {
+        return short_word(name, numbers);
     }
-    let Number::Value(b) = decimal::parse(fields::nth(line, 2)) else {
-        return Reading::Malformed;
-    };
-    with_two(name, a, b)
+    long_word(name, numbers)
 }

@@ -4,7 +4,7 @@ ghost use mathlib.Core.Path.{_≡_};
 ghost use lib.ListN.{length};
 ghost use Rattle.text.specs.Fields.{fields, fieldAt};
 
-const TAB: u8 = b'\t';
+pub const TAB: u8 = b'\t';
 
 // How many fields the line has.
 pub fn count(line: &[u8]) -> usize
