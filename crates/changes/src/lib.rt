@@ -1,4 +1,3 @@
-// Changes of a record that the steps are made of: waits, owners, counts, levels, the ready order and who runs.
+// Changes of single tables that the steps are made of: waits that begin and end, flags that name tasks, owners, counts, things made.
 pub mod objects;
-pub mod settle;
 pub mod tables;

@@ -9,3 +9,4 @@ pub mod OrderLaws
 pub mod TableLaws
 pub mod FirstLaws
 pub mod FillLaws
+pub mod LoopLaws

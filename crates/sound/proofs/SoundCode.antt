@@ -1,29 +1,16 @@
--- What the proofs of the test of a record share: what a call's answer says of a test, the tests that loops make of each place, and a count one more.
-use mathlib.Core.Path.{_≡_, refl, sym, _∙_}
+-- What the proofs of the test of a record share: the tests that loops make of each place, and a count one more.
+use mathlib.Core.Path.{_≡_, refl}
 use mathlib.Core.List.{List}
-use mathlib.Core.Bool.{Bool, true, false, not}
+use mathlib.Core.Bool.{Bool}
 use Prim.Native.Nat.{ℕ, _+_}
 use native.Mathlib.Omega.{arith}
 use lib.Dec.{ltb, eqb}
-use borrow.Author.Tests.{not-true, not-false, eqb-true, eq-eqb}
-use Rattle.lists.specs.Test.{_or_}
+use borrow.Author.Tests.{eqb-true, eq-eqb}
 use Rattle.lists.specs.TestLaws.{same-test}
 use Rattle.rules.specs.Sizes.{levels, granted}
 use Rattle.task_lists.specs.TaskList.{noId, keyOf}
 use Rattle.record.specs.Reads.{ownerAt}
 use Rattle.record.specs.declared.Mutexes.{Mutexes}
-
--- a test that a call answers, after `if !call`
-pub passed : {r b : Bool} → r ≡ b → not r ≡ false → b ≡ true
-passed {r} e h = sym e ∙ not-false r h
-
-pub failed : {r b : Bool} → r ≡ b → not r ≡ true → b ≡ false
-failed {r} e h = sym e ∙ not-true r h
-
-pub or-false : (b : Bool) → b or false ≡ b
-unfolding _or_
-or-false true = refl
-or-false false = refl
 
 -- what a loop tests of each place of a table
 abbrev pub priorityAt : List ℕ → ℕ → Bool

@@ -1,6 +1,5 @@
 // The test of a record.
 mod phrases;
-mod tidy;
 
 ghost use mathlib.Core.Path.{_≡_};
 ghost use Rattle.record.specs.SoundRecord.{soundOf};

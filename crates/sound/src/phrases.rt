@@ -1,7 +1,6 @@
 // Is the record sound? One function for each phrase; the first that fails ends the test.
 ghost use mathlib.Core.Path.{_≡_};
 ghost use Rattle.checks.specs.Checks.{prioritiesIn, mutexInRange, mutexesIn, countIn, countsIn, blockedAt, timedAt, outcomeAt, taskIn, tasksIn, placeAt, placesIn, ringless, levelsIn, topIn, startedIn, nothingOwned, outcomesZero, setUpIn, phaseIn, checks};
-use crate::tidy;
 use record::FLUSHED;
 use record::GRANTED;
 use record::KINDS;

@@ -4,7 +4,6 @@ ghost use Rattle.machine.specs.Machine.{taskStep, mutexStep, semStep, startStep
 use crate::answers;
 use crate::refusals;
 use changes::objects;
-use changes::settle;
 use changes::tables;
 use record::GRANTED;
 use record::KINDS;

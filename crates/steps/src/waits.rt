@@ -4,7 +4,6 @@ ghost use Rattle.machine.specs.Machine.{lockStep, lockWaits, passed, unlockStep
 use crate::answers;
 use crate::refusals;
 use changes::objects;
-use changes::settle;
 use changes::tables;
 use record::FLUSHED;
 use record::GRANTED;

@@ -10,7 +10,7 @@ use borrow.Author.Tests.{lt-ltb, le-ltb, ltb-true, ltb-false}
 use Rattle.lists.specs.TestLaws.{which}
 use Rattle.decimal.specs.Decimal.{maxDigits, decimal}
 use Rattle.decimal.specs.DecimalLaws.{decimal-length}
-use Rattle.rules.specs.Sizes.{maxTasks}
+use Rattle.rules.specs.Sizes.{taskPlaces}
 use Rattle.text.specs.Fields.{tab}
 use Rattle.text.specs.Lines.{lf}
 use Rattle.rules.specs.Log.{dash, runField}
@@ -19,13 +19,13 @@ use Rattle.syntax.specs.LogLine.{lineBytes}
 use Rattle.syntax.specs.PutLaws.{whole}
 
 -- the field of the task to run
-pub run-task : (x : ℕ) → x < maxTasks → runField (taskAt x) ≡ decimal x
+pub run-task : (x : ℕ) → x < taskPlaces → runField (taskAt x) ≡ decimal x
 unfolding runField
-run-task x h = rw (lt-ltb x maxTasks h)
+run-task x h = rw (lt-ltb x taskPlaces h)
 
-pub run-none : (x : ℕ) → maxTasks ≤ x → runField (taskAt x) ≡ dash ∷ []
+pub run-none : (x : ℕ) → taskPlaces ≤ x → runField (taskAt x) ≡ dash ∷ []
 unfolding runField
-run-none x h = rw (le-ltb x maxTasks h)
+run-none x h = rw (le-ltb x taskPlaces h)
 
 -- a line as rows of bytes one after the other
 abbrev pub lineRows : ℕ → ℕ → ℕ → List (List ℕ)
@@ -45,7 +45,7 @@ pub digits-most : (n v : ℕ) → n ≡ length (decimal v) → n ≤ maxDigits
 digits-most n v e = rw e (decimal-length v .1)
 
 pub run-most : (n x : ℕ) → n ≡ length (runField (taskAt x)) → n ≤ maxDigits
-run-most n x e = elim (which (ltb x maxTasks)) [
+run-most n x e = elim (which (ltb x taskPlaces)) [
   | inl h ↦ digits-most n x (e ∙ ap length (run-task x (ltb-true _ _ h)))
   | inr h ↦ omega (arith, e ∙ ap length (run-none x (ltb-false _ _ h)))
 ]

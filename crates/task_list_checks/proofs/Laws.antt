@@ -1,18 +1,18 @@
 -- One turn and the end of each loop that tests or counts what stands in a list.
-use mathlib.Core.Path.{_≡_, refl, _∙_}
+use mathlib.Core.Path.{_≡_, refl, sym, _∙_}
 use mathlib.Core.List.{List, [], _∷_}
 use mathlib.Core.Bool.{Bool, true, false, not}
 use mathlib.Core.Logic.{inl, inr}
 use Prim.Native.Nat.{ℕ, zero, suc, _+_, _-_, _%_, _≤_, _<_}
 use native.Mathlib.Omega.{arith}
 use native.Mathlib.Numerals.{add-one}
-use native.Mathlib.Decide.{ℕ-discrete}
 use borrow.Author.Tests.{lt-ltb, le-ltb, le-leb, lt-leb, eq-eqb, ne-eqb}
 use lib.Dec.{ltb, leb, eqb}
 use lib.ListN.{length, getD, set, drop, length-take, length-drop}
 use lib.Seq.{set-out}
 use Rattle.lists.specs.Test.{_and_, _or_, allb}
-use Rattle.lists.specs.TestLaws.{which, false-and, true-and, true-all, or-l, or-r}
+use Rattle.lists.specs.TestLaws.{which, true-and, true-all, or-l, or-r}
+use Rattle.lists.specs.LoopLaws.{all-fails}
 use Rattle.lists.specs.Order.{ascb, tiesb, inside}
 use Rattle.task_lists.specs.TaskList.{places, noId, items, restEmpty, counted}
 use Rattle.task_lists.specs.declared.TaskList.{TaskList}
@@ -30,18 +30,6 @@ unfolding tiesb
 tiesb-short f [] h = refl
 tiesb-short f (x ∷ []) h = refl
 tiesb-short f (x ∷ y ∷ l) h = absurd (omega arith)
-
--- one that fails
-all-false : (n : ℕ) (p : ℕ → Bool) (i : ℕ) → i < n → p i ≡ false → allb n p ≡ false
-unfolding allb _and_
-all-false zero p i h e = absurd (omega arith)
-all-false (suc n) p i h e = elim (ℕ-discrete i n) [
-  | yes q ↦ false-and _ _ (rw q at e)
-  | no q ↦ (let g : allb n p ≡ false = all-false n p i (omega arith) e in elim (which (p n)) [
-    | inl t ↦ rw (t, g) refl
-    | inr t ↦ false-and _ _ t
-  ])
-]
 
 -- a conjunction whose first part holds is its second
 true-and-r : (a b : Bool) → a ≡ true → a and b ≡ b
@@ -138,4 +126,4 @@ module _ (q : TaskList) where
 
   pub rest-fail : (i : ℕ) → length (q .ids) ≡ places → length (items q) ≤ i → i < places → (getD (q .ids) i 0 ≡ noId → ⊥) → restEmpty q ≡ false
   unfolding _or_
-  rest-fail i g h k e = all-false places _ i k (rw (le-ltb i (q .n) (omega (arith, length-take (q .n) (q .ids))), ne-eqb _ _ e))
+  rest-fail i g h k e = sym (all-fails _ i places k (sym (rw (le-ltb i (q .n) (omega (arith, length-take (q .n) (q .ids))), ne-eqb _ _ e))))

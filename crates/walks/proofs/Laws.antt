@@ -118,22 +118,6 @@ module _ (next : List ℕ) (at : ℕ) where
   ends-in (suc f) p h =
       let q : suc f - 1 ≡ f = omega arith in rw (task-in at h, q, next-in next at h) refl
 
--- a test of every number below a bound, number by number
-module _ (p : ℕ → Bool) where
-  pub all-none : true ≡ allb 0 p
-  unfolding allb
-  all-none = refl
-
-  pub all-step : (j : ℕ) → true ≡ allb j p → true ≡ p j → true ≡ allb (j + 1) p
-  unfolding allb
-  all-step j e h = rw add-one (sym (true-and (p j) (allb j p) (sym h) (sym e)))
-
-  pub all-done : (j n : ℕ) → n ≡ j → true ≡ allb j p → true ≡ allb n p
-  all-done j n q e = rw q e
-
-  pub all-fails : (j n : ℕ) → j < n → false ≡ p j → false ≡ allb n p
-  all-fails j n h e = elim (which (allb n p)) [ inl t ↦ absurd (clash (all-true n p t j h) (sym e)) | inr t ↦ sym t ]
-
 -- levels task by task
 pub raised-none : (own next : List ℕ) (n : ℕ) → own ≡ raised own next n 0
 unfolding raised

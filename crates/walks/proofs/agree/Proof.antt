@@ -8,7 +8,8 @@ use lib.ListN.{getD}
 use borrow.Author.Tests.{eq-eqb, ne-eqb}
 use Rattle.lists.specs.Test.{allb}
 use Rattle.rules.specs.Sizes.{taskPlaces}
-use Rattle.walks.proofs.Laws.{all-none, all-step, all-done, all-fails, sameAt}
+use Rattle.walks.proofs.Laws.{sameAt}
+use Rattle.lists.specs.LoopLaws.{all-none, all-step, all-done, all-fails}
 use Rattle.walks.proofs.agree.Statement.{statement}
 use Rattle.walks.proofs.agree.Tie as tie
 

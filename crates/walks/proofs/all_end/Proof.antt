@@ -7,7 +7,8 @@ use Prim.Native.Nat.{_-_, _≤_, min}
 use borrow.Author.Tests.{not-true, not-false}
 use Rattle.lists.specs.Test.{allb}
 use Rattle.rules.specs.Sizes.{taskPlaces}
-use Rattle.walks.proofs.Laws.{all-none, all-step, all-done, all-fails, endsAfter, ends-read}
+use Rattle.walks.proofs.Laws.{endsAfter, ends-read}
+use Rattle.lists.specs.LoopLaws.{all-none, all-step, all-done, all-fails}
 use Rattle.walks.proofs.all_end.Statement.{statement}
 use Rattle.walks.proofs.all_end.Tie as tie
 

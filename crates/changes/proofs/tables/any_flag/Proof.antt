@@ -4,19 +4,21 @@ use mathlib.Core.Bool.{true}
 use mathlib.Core.Path.{_≡_}
 use Prim.Native.Nat.{_-_, _≤_}
 use native.Mathlib.Omega.{arith}
+use Rattle.lists.specs.Test.{allb}
+use Rattle.lists.specs.LoopLaws.{all-none}
 use Rattle.rules.specs.Sizes.{taskPlaces}
-use Rattle.changes.proofs.Laws.{flag-done, flag-here, flag-more, flag-none, noFlag}
+use Rattle.changes.proofs.Laws.{flag-done, flag-here, flag-more, noOne}
 use Rattle.changes.proofs.tables.any_flag.Statement.{statement}
 use Rattle.changes.proofs.tables.any_flag.Tie as tie
 
 abbrev Inv-loop : tie.InvT-loop
-Inv-loop f i₀ i = (i ≤ taskPlaces) × (true ≡ noFlag f i)
+Inv-loop f i₀ i = (i ≤ taskPlaces) × (true ≡ allb i (noOne f))
 
 abbrev μ-loop : tie.MeasureT-loop
 μ-loop f i₀ i = taskPlaces - i
 
 loop-holds : tie.Need-loop-holds Inv-loop μ-loop
-loop-holds c = (search needs, flag-none (c .args .t1))
+loop-holds c = (search needs, all-none (noOne (c .args .t1)))
 
 array-read-if1 : tie.Need-array-read-if1 Inv-loop μ-loop
 array-read-if1 c = search needs

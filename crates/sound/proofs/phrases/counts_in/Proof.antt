@@ -5,9 +5,8 @@ use mathlib.Core.Bool.{true}
 use Prim.Native.Nat.{_-_, _≤_}
 use native.Mathlib.Omega.{arith}
 use Rattle.lists.specs.Test.{allb}
-use Rattle.walks.proofs.Laws.{all-none, all-step, all-done, all-fails}
+use Rattle.lists.specs.LoopLaws.{all-none, all-done, all-turn, all-stop}
 use Rattle.checks.specs.Checks.{countIn, countsIn}
-use Rattle.sound.proofs.SoundCode.{passed, failed}
 use Rattle.sound.proofs.phrases.counts_in.Statement.{statement}
 use Rattle.sound.proofs.phrases.counts_in.Tie as tie
 
@@ -25,7 +24,7 @@ count-in-range-requires c κs = search needs
 
 returns : tie.Need-returns Inv-loop μ-loop
 unfolding countsIn
-returns c = all-fails (countIn (c .before .before .before .before .args .c)) (c .before .before .before .loop .j) (c .before .before .before .before .args .c .n) (omega arith) (sym (failed (c .before .count-in-range .ensures) (c .if1 .taken)))
+returns c = all-stop (countIn (c .before .before .before .before .args .c)) (c .before .before .before .loop .j) (c .before .before .before .before .args .c .n) (omega arith) (c .before .count-in-range .ensures) (c .if1 .taken)
 
 add-j : tie.Need-add-j Inv-loop μ-loop
 add-j c = search needs
@@ -34,7 +33,7 @@ loop-less : tie.Need-loop-less Inv-loop μ-loop
 loop-less c = search needs
 
 loop-again : tie.Need-loop-again Inv-loop μ-loop
-loop-again c = (search needs, all-step (countIn (c .before .before .before .before .args .c)) (c .before .before .before .loop .j) (c .before .before .before .loop .inv .1) (sym (passed (c .before .count-in-range .ensures) (c .if1 .left))))
+loop-again c = (search needs, all-turn (countIn (c .before .before .before .before .args .c)) (c .before .before .before .loop .j) (c .before .before .before .loop .inv .1) (c .before .count-in-range .ensures) (c .if1 .left))
 
 returns-2 : tie.Need-returns-2 Inv-loop μ-loop
 unfolding countsIn

@@ -5,9 +5,8 @@ use mathlib.Core.Bool.{true}
 use Prim.Native.Nat.{_-_, _≤_}
 use native.Mathlib.Omega.{arith}
 use Rattle.lists.specs.Test.{allb}
-use Rattle.walks.proofs.Laws.{all-none, all-step, all-done, all-fails}
+use Rattle.lists.specs.LoopLaws.{all-none, all-done, all-turn, all-stop}
 use Rattle.checks.specs.Checks.{mutexInRange, mutexesIn}
-use Rattle.sound.proofs.SoundCode.{passed, failed}
 use Rattle.sound.proofs.phrases.mutexes_in.Statement.{statement}
 use Rattle.sound.proofs.phrases.mutexes_in.Tie as tie
 
@@ -25,7 +24,7 @@ mutex-in-requires c κs = search needs
 
 returns : tie.Need-returns Inv-loop μ-loop
 unfolding mutexesIn
-returns c = all-fails (mutexInRange (c .before .before .before .before .args .m) (c .before .before .before .before .args .n)) (c .before .before .before .loop .j) (c .before .before .before .before .args .m .n) (omega arith) (sym (failed (c .before .mutex-in .ensures) (c .if1 .taken)))
+returns c = all-stop (mutexInRange (c .before .before .before .before .args .m) (c .before .before .before .before .args .n)) (c .before .before .before .loop .j) (c .before .before .before .before .args .m .n) (omega arith) (c .before .mutex-in .ensures) (c .if1 .taken)
 
 add-j : tie.Need-add-j Inv-loop μ-loop
 add-j c = search needs
@@ -34,7 +33,7 @@ loop-less : tie.Need-loop-less Inv-loop μ-loop
 loop-less c = search needs
 
 loop-again : tie.Need-loop-again Inv-loop μ-loop
-loop-again c = (search needs, all-step (mutexInRange (c .before .before .before .before .args .m) (c .before .before .before .before .args .n)) (c .before .before .before .loop .j) (c .before .before .before .loop .inv .1) (sym (passed (c .before .mutex-in .ensures) (c .if1 .left))))
+loop-again c = (search needs, all-turn (mutexInRange (c .before .before .before .before .args .m) (c .before .before .before .before .args .n)) (c .before .before .before .loop .j) (c .before .before .before .loop .inv .1) (c .before .mutex-in .ensures) (c .if1 .left))
 
 returns-2 : tie.Need-returns-2 Inv-loop μ-loop
 unfolding mutexesIn

@@ -6,7 +6,7 @@ use Prim.Native.Nat.{_-_, _≤_}
 use native.Mathlib.Omega.{arith}
 use borrow.Author.Tests.{eq-eqb, ne-eqb}
 use Rattle.lists.specs.Test.{allb}
-use Rattle.walks.proofs.Laws.{all-none, all-step, all-done, all-fails}
+use Rattle.lists.specs.LoopLaws.{all-none, all-step, all-done, all-fails}
 use Rattle.sound.proofs.SoundCode.{grantedAt}
 use Rattle.sound.proofs.phrases.outcomes_zero.Statement.{statement}
 use Rattle.sound.proofs.phrases.outcomes_zero.Tie as tie

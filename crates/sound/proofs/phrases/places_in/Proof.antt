@@ -9,9 +9,8 @@ use lib.Dec.{eqb, ltb}
 use borrow.Author.Tests.{lt-ltb, le-ltb, eq-eqb, ne-eqb}
 use Rattle.lists.specs.Test.{allb, _and_, _or_}
 use Rattle.lists.specs.TestLaws.{or-l, or-r}
-use Rattle.walks.proofs.Laws.{all-none, all-step, all-done, all-fails}
+use Rattle.lists.specs.LoopLaws.{all-none, all-done, all-turn, all-stop, test-passed, test-failed}
 use Rattle.checks.specs.Checks.{placeAt, placesIn}
-use Rattle.sound.proofs.SoundCode.{passed, failed}
 use Rattle.sound.proofs.phrases.places_in.Statement.{statement}
 use Rattle.sound.proofs.phrases.places_in.Tie as tie
 use Rattle.sound.proofs.phrases.places_in.Reads as reads
@@ -35,18 +34,18 @@ ids-below-requires c κs = search needs
 
 returns : tie.Need-returns Inv-loop μ-loop
 unfolding placesIn _and_ _or_
-returns c = rw (failed (c .before .ids-below .ensures) (c .if1 .taken))
+returns c = rw (test-failed (c .before .ids-below .ensures) (c .if1 .taken))
 
 ids-below-requires-2 : tie.Need-ids-below-requires-2 Inv-loop μ-loop
 ids-below-requires-2 c κs = search needs
 
 returns-2 : tie.Need-returns-2 Inv-loop μ-loop
 unfolding placesIn _and_ _or_
-returns-2 c = rw (passed (c .before .before .before .ids-below .ensures) (c .before .before .if1 .left), failed (c .before .ids-below2 .ensures) (c .if2 .taken))
+returns-2 c = rw (test-passed (c .before .before .before .ids-below .ensures) (c .before .before .if1 .left), test-failed (c .before .ids-below2 .ensures) (c .if2 .taken))
 
 returns-3 : tie.Need-returns-3 Inv-loop μ-loop
 unfolding placesIn _and_ _or_
-returns-3 c = rw (passed (c .before .before .before .before .before .before .before .ids-below .ensures) (c .before .before .before .before .before .before .if1 .left), passed (c .before .before .before .before .before .ids-below2 .ensures) (c .before .before .before .before .if2 .left), ne-eqb _ _ (c .before .before .if3 .taken), le-ltb _ _ (c .if4 .taken))
+returns-3 c = rw (test-passed (c .before .before .before .before .before .before .before .ids-below .ensures) (c .before .before .before .before .before .before .if1 .left), test-passed (c .before .before .before .before .before .ids-below2 .ensures) (c .before .before .before .before .if2 .left), ne-eqb _ _ (c .before .before .if3 .taken), le-ltb _ _ (c .if4 .taken))
 
 count-in-requires : tie.Need-count-in-requires Inv-loop μ-loop
 count-in-requires c κs = search needs
@@ -62,7 +61,7 @@ place-at-requires c κs = search needs
 
 returns-4 : tie.Need-returns-4 Inv-loop μ-loop
 unfolding placesIn _and_ _or_
-returns-4 c = rw (passed (c .before .before .before .before .before .before .before .before .before .before .before .ids-below .ensures) (c .before .before .before .before .before .before .before .before .before .before .if1 .left), passed (c .before .before .before .before .before .before .before .before .before .ids-below2 .ensures) (c .before .before .before .before .before .before .before .before .if2 .left), running-fits (c .before .before .before .before .before .before), ← c .before .before .before .before .before .count-in .ensures, ← c .before .before .before .before .count-in2 .ensures) (all-fails (placeAt (c .before .before .before .before .before .before .before .before .before .before .before .before .args .s) (c .before .before .before .before .before .count-in .result) (c .before .before .before .before .count-in2 .result)) (c .before .before .before .loop .i) (c .before .before .before .before .before .before .before .before .before .before .before .before .args .s .tasks .n) (omega arith) (sym (failed (c .before .place-at .ensures) (c .if5 .taken))))
+returns-4 c = rw (test-passed (c .before .before .before .before .before .before .before .before .before .before .before .ids-below .ensures) (c .before .before .before .before .before .before .before .before .before .before .if1 .left), test-passed (c .before .before .before .before .before .before .before .before .before .ids-below2 .ensures) (c .before .before .before .before .before .before .before .before .if2 .left), running-fits (c .before .before .before .before .before .before), ← c .before .before .before .before .before .count-in .ensures, ← c .before .before .before .before .count-in2 .ensures) (all-stop (placeAt (c .before .before .before .before .before .before .before .before .before .before .before .before .args .s) (c .before .before .before .before .before .count-in .result) (c .before .before .before .before .count-in2 .result)) (c .before .before .before .loop .i) (c .before .before .before .before .before .before .before .before .before .before .before .before .args .s .tasks .n) (omega arith) (c .before .place-at .ensures) (c .if5 .taken))
 
 add-i : tie.Need-add-i Inv-loop μ-loop
 add-i c = search needs
@@ -71,11 +70,11 @@ loop-less : tie.Need-loop-less Inv-loop μ-loop
 loop-less c = search needs
 
 loop-again : tie.Need-loop-again Inv-loop μ-loop
-loop-again c = (search needs, all-step (placeAt (c .before .before .before .before .before .before .before .before .before .before .before .before .args .s) (c .before .before .before .before .before .count-in .result) (c .before .before .before .before .count-in2 .result)) (c .before .before .before .loop .i) (c .before .before .before .loop .inv .1) (sym (passed (c .before .place-at .ensures) (c .if5 .left))))
+loop-again c = (search needs, all-turn (placeAt (c .before .before .before .before .before .before .before .before .before .before .before .before .args .s) (c .before .before .before .before .before .count-in .result) (c .before .before .before .before .count-in2 .result)) (c .before .before .before .loop .i) (c .before .before .before .loop .inv .1) (c .before .place-at .ensures) (c .if5 .left))
 
 returns-5 : tie.Need-returns-5 Inv-loop μ-loop
 unfolding placesIn _and_ _or_
-returns-5 c = rw (passed (c .before .before .before .before .before .before .before .before .before .ids-below .ensures) (c .before .before .before .before .before .before .before .before .if1 .left), passed (c .before .before .before .before .before .before .before .ids-below2 .ensures) (c .before .before .before .before .before .before .if2 .left), running-fits (c .before .before .before .before), ← c .before .before .before .count-in .ensures, ← c .before .before .count-in2 .ensures) (all-done (placeAt (c .before .before .before .before .before .before .before .before .before .before .args .s) (c .before .before .before .count-in .result) (c .before .before .count-in2 .result)) (c .before .loop .i) (c .before .before .before .before .before .before .before .before .before .before .args .s .tasks .n) (omega arith) (c .before .loop .inv .1))
+returns-5 c = rw (test-passed (c .before .before .before .before .before .before .before .before .before .ids-below .ensures) (c .before .before .before .before .before .before .before .before .if1 .left), test-passed (c .before .before .before .before .before .before .before .ids-below2 .ensures) (c .before .before .before .before .before .before .if2 .left), running-fits (c .before .before .before .before), ← c .before .before .before .count-in .ensures, ← c .before .before .count-in2 .ensures) (all-done (placeAt (c .before .before .before .before .before .before .before .before .before .before .args .s) (c .before .before .before .count-in .result) (c .before .before .count-in2 .result)) (c .before .loop .i) (c .before .before .before .before .before .before .before .before .before .before .args .s .tasks .n) (omega arith) (c .before .loop .inv .1))
 
 pub places-in-spec : {M : Type 1} → statement M
 places-in-spec =

@@ -6,7 +6,7 @@ use Prim.Native.Nat.{_-_, _≤_}
 use native.Mathlib.Omega.{arith}
 use borrow.Author.Tests.{lt-ltb, le-ltb}
 use Rattle.lists.specs.Test.{allb}
-use Rattle.walks.proofs.Laws.{all-none, all-step, all-done, all-fails}
+use Rattle.lists.specs.LoopLaws.{all-none, all-step, all-done, all-fails}
 use Rattle.checks.specs.Checks.{prioritiesIn}
 use Rattle.sound.proofs.SoundCode.{priorityAt}
 use Rattle.sound.proofs.phrases.priorities_in.Statement.{statement}

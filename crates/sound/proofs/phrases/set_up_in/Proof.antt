@@ -3,7 +3,7 @@ use borrow.Author.Needs.{needs}
 use borrow.Author.Tests.{eq-eqb, ne-eqb}
 use Rattle.lists.specs.Test.{_and_}
 use Rattle.checks.specs.Checks.{setUpIn}
-use Rattle.sound.proofs.SoundCode.{passed, failed}
+use Rattle.lists.specs.LoopLaws.{test-passed, test-failed}
 use Rattle.sound.proofs.phrases.set_up_in.Statement.{statement}
 use Rattle.sound.proofs.phrases.set_up_in.Tie as tie
 
@@ -28,21 +28,21 @@ nothing-owned-requires c κs = search needs
 
 returns-5 : tie.Need-returns-5
 unfolding setUpIn _and_
-returns-5 c = rw (eq-eqb _ _ (c .before .before .before .before .before .before .before .before .if1 .left), eq-eqb _ _ (c .before .before .before .before .before .before .if2 .left), eq-eqb _ _ (c .before .before .before .before .if3 .left), eq-eqb _ _ (c .before .before .if4 .left), failed (c .before .nothing-owned .ensures) (c .if5 .taken))
+returns-5 c = rw (eq-eqb _ _ (c .before .before .before .before .before .before .before .before .if1 .left), eq-eqb _ _ (c .before .before .before .before .before .before .if2 .left), eq-eqb _ _ (c .before .before .before .before .if3 .left), eq-eqb _ _ (c .before .before .if4 .left), test-failed (c .before .nothing-owned .ensures) (c .if5 .taken))
 
 outcomes-zero-requires : tie.Need-outcomes-zero-requires
 outcomes-zero-requires c κs = search needs
 
 returns-6 : tie.Need-returns-6
 unfolding setUpIn _and_
-returns-6 c = rw (eq-eqb _ _ (c .before .before .before .before .before .before .before .before .before .before .if1 .left), eq-eqb _ _ (c .before .before .before .before .before .before .before .before .if2 .left), eq-eqb _ _ (c .before .before .before .before .before .before .if3 .left), eq-eqb _ _ (c .before .before .before .before .if4 .left), passed (c .before .before .before .nothing-owned .ensures) (c .before .before .if5 .left), failed (c .before .outcomes-zero .ensures) (c .if6 .taken))
+returns-6 c = rw (eq-eqb _ _ (c .before .before .before .before .before .before .before .before .before .before .if1 .left), eq-eqb _ _ (c .before .before .before .before .before .before .before .before .if2 .left), eq-eqb _ _ (c .before .before .before .before .before .before .if3 .left), eq-eqb _ _ (c .before .before .before .before .if4 .left), test-passed (c .before .before .before .nothing-owned .ensures) (c .before .before .if5 .left), test-failed (c .before .outcomes-zero .ensures) (c .if6 .taken))
 
 ties-by-id-requires : tie.Need-ties-by-id-requires
 ties-by-id-requires c κs = search needs
 
 returns-7 : tie.Need-returns-7
 unfolding setUpIn _and_
-returns-7 c = rw (eq-eqb _ _ (c .before .before .before .before .before .before .before .before .before .before .before .before .before .if1 .left), eq-eqb _ _ (c .before .before .before .before .before .before .before .before .before .before .before .if2 .left), eq-eqb _ _ (c .before .before .before .before .before .before .before .before .before .if3 .left), eq-eqb _ _ (c .before .before .before .before .before .before .before .if4 .left), passed (c .before .before .before .before .before .before .nothing-owned .ensures) (c .before .before .before .before .before .if5 .left), passed (c .before .before .before .before .outcomes-zero .ensures) (c .before .before .before .if6 .left)) (c .ties-by-id .ensures)
+returns-7 c = rw (eq-eqb _ _ (c .before .before .before .before .before .before .before .before .before .before .before .before .before .if1 .left), eq-eqb _ _ (c .before .before .before .before .before .before .before .before .before .before .before .if2 .left), eq-eqb _ _ (c .before .before .before .before .before .before .before .before .before .if3 .left), eq-eqb _ _ (c .before .before .before .before .before .before .before .if4 .left), test-passed (c .before .before .before .before .before .before .nothing-owned .ensures) (c .before .before .before .before .before .if5 .left), test-passed (c .before .before .before .before .outcomes-zero .ensures) (c .before .before .before .if6 .left)) (c .ties-by-id .ensures)
 
 pub set-up-in-spec : {M : Type 1} → statement M
 set-up-in-spec =

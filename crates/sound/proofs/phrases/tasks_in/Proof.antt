@@ -5,9 +5,8 @@ use mathlib.Core.Bool.{true}
 use Prim.Native.Nat.{_-_, _≤_}
 use native.Mathlib.Omega.{arith}
 use Rattle.lists.specs.Test.{allb}
-use Rattle.walks.proofs.Laws.{all-none, all-step, all-done, all-fails}
+use Rattle.lists.specs.LoopLaws.{all-none, all-done, all-turn, all-stop}
 use Rattle.checks.specs.Checks.{taskIn, tasksIn}
-use Rattle.sound.proofs.SoundCode.{passed, failed}
 use Rattle.sound.proofs.phrases.tasks_in.Statement.{statement}
 use Rattle.sound.proofs.phrases.tasks_in.Tie as tie
 
@@ -25,7 +24,7 @@ task-in-requires c κs = search needs
 
 returns : tie.Need-returns Inv-loop μ-loop
 unfolding tasksIn
-returns c = all-fails (taskIn (c .before .before .before .before .args .s)) (c .before .before .before .loop .i) (c .before .before .before .before .args .s .tasks .n) (omega arith) (sym (failed (c .before .task-in .ensures) (c .if1 .taken)))
+returns c = all-stop (taskIn (c .before .before .before .before .args .s)) (c .before .before .before .loop .i) (c .before .before .before .before .args .s .tasks .n) (omega arith) (c .before .task-in .ensures) (c .if1 .taken)
 
 add-i : tie.Need-add-i Inv-loop μ-loop
 add-i c = let tasks = c .before .before .before .before .good .0 .1 .1 .0 .1 .1 in omega (arith, tasks .1 .1 .1 .1 .1 .1 .1 .0 .1)
@@ -34,7 +33,7 @@ loop-less : tie.Need-loop-less Inv-loop μ-loop
 loop-less c = search needs
 
 loop-again : tie.Need-loop-again Inv-loop μ-loop
-loop-again c = (search needs, all-step (taskIn (c .before .before .before .before .args .s)) (c .before .before .before .loop .i) (c .before .before .before .loop .inv .1) (sym (passed (c .before .task-in .ensures) (c .if1 .left))))
+loop-again c = (search needs, all-turn (taskIn (c .before .before .before .before .args .s)) (c .before .before .before .loop .i) (c .before .before .before .loop .inv .1) (c .before .task-in .ensures) (c .if1 .left))
 
 returns-2 : tie.Need-returns-2 Inv-loop μ-loop
 unfolding tasksIn
