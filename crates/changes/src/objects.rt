@@ -22,14 +22,14 @@ pub fn set_owner(mut m: Mutexes, j: u8, owner: u8) -> Mutexes
 }
 
 // A semaphore gets another count.
-pub fn set_count(mut c: Semaphores, j: u8, count: u32) -> Semaphores
-    ensures { λ r. ⌜ r ≡ countSet c j count ⌝ }
+pub fn set_count(mut c: Semaphores, j: u8, value: u32) -> Semaphores
+    ensures { λ r. ⌜ r ≡ countSet c j value ⌝ }
 {
     let i = j as usize;
     if SEMAPHORES <= i {
         return c;
     }
-    c.count[i] = count;
+    c.count[i] = value;
     c
 }
 

@@ -4,7 +4,7 @@ ghost use Prim.Native.Nat.{_<_};
 ghost use Rattle.lists.specs.Table.{filled};
 ghost use Rattle.rules.specs.Sizes.{taskPlaces};
 ghost use Rattle.record.specs.Record.{dueAt};
-ghost use Rattle.machine.specs.Machine.{waitBegun, waitEnded, endedIf, endedWhere, single, dueFlag, waiterFlag, differs, differFlag, bothOnes, bothFlag, anyFlag};
+ghost use Rattle.machine.specs.Machine.{waitBegun, waitEnded, endedIf, endedWhere, single, dueFlag, waiterFlag, anyFlag};
 use record::NO_WAIT;
 use record::ON_TIME;
 use record::PENDING;
@@ -137,49 +137,6 @@ pub fn waiter_flags(t: Tasks, kind: u8, object: u8) -> [u8; TASKS]
         f[i] = waiter_flag(t, kind, object, i);
     }
     f
-}
-
-// The places where two tables differ.
-pub fn differ(a: [u8; TASKS], b: [u8; TASKS]) -> [u8; TASKS]
-    ensures { λ r. ⌜ r ≡ filled taskPlaces (differFlag a b) ⌝ }
-{
-    let mut f = [0u8; TASKS];
-    for i in 0..TASKS {
-        f[i] = differ_flag(a[i], b[i]);
-    }
-    f
-}
-
-fn differ_flag(x: u8, y: u8) -> u8
-    ensures { λ r. ⌜ r ≡ differs x y ⌝ }
-{
-    if x == y {
-        return 0;
-    }
-    1
-}
-
-// The places where both tables hold a 1.
-pub fn both(a: [u8; TASKS], b: [u8; TASKS]) -> [u8; TASKS]
-    ensures { λ r. ⌜ r ≡ filled taskPlaces (bothFlag a b) ⌝ }
-{
-    let mut f = [0u8; TASKS];
-    for i in 0..TASKS {
-        f[i] = both_flag(a[i], b[i]);
-    }
-    f
-}
-
-fn both_flag(x: u8, y: u8) -> u8
-    ensures { λ r. ⌜ r ≡ bothOnes x y ⌝ }
-{
-    if x != 1 {
-        return 0;
-    }
-    if y == 1 {
-        return 1;
-    }
-    0
 }
 
 // Does any place hold a 1?

@@ -1,4 +1,6 @@
 // After each accepted step: levels, the ready order, and who runs.
+mod flags;
+
 ghost use mathlib.Core.Path.{_≡_};
 ghost use Rattle.machine.specs.Machine.{resettled, settled, without, ran, displaced, dispatched, woke, lined, blockedOn};
 use changes::tables;
@@ -13,9 +15,9 @@ use task_lists::TaskList;
 fn resettle(q: TaskList, old: [u8; TASKS], new: [u8; TASKS], woken: [u8; TASKS], n: u8) -> TaskList
     ensures { λ r. ⌜ r ≡ resettled q old new woken n ⌝ }
 {
-    let changed = tables::differ(old, new);
+    let changed = flags::differ(old, new);
     let there = task_list_checks::count_in([0u8; TASKS], q);
-    let moved = tables::both(changed, there);
+    let moved = flags::both(changed, there);
     let stay = task_lists::keep_flagged(q, changed, 0);
     let back = task_lists::insert_flagged(stay, new, moved, n);
     task_lists::insert_flagged(back, new, woken, n)
