@@ -1,4 +1,4 @@
-// The kernel: the step that takes any record and any request, and a refusal from outside it.
+// The kernel: the step that takes any record and any request, and the two refusals that come from outside a step.
 ghost use mathlib.Core.Path.{_≡_};
 ghost use Rattle.task_lists.specs.TaskList.{idOf};
 ghost use Rattle.record.specs.StepRecord.{stepOf, stays};
@@ -41,8 +41,8 @@ fn standing(s: State) -> u8
     NONE
 }
 
-// A refusal that no step gives: the record stays. The number is 14, or the log's 8; document 01 answers no other from outside a step.
-pub fn stopped(s: State, number: u8) -> Out
+// A refusal that no step gives: the record stays.
+fn stopped(s: State, number: u8) -> Out
     ensures { λ r. ⌜ r ≡ stays s number 0 (standingIn s) ⌝ }
 {
     let a = Answer::Refused {
@@ -54,4 +54,18 @@ pub fn stopped(s: State, number: u8) -> Out
         state: s,
         answer: a,
     }
+}
+
+// 14: what was asked for is no step.
+pub fn malformed(s: State) -> Out
+    ensures { λ r. ⌜ r ≡ stays s 14 0 (standingIn s) ⌝ }
+{
+    stopped(s, 14)
+}
+
+// The log's 8: the line that would report the answer has no room, and the step isn't made.
+pub fn without_room(s: State) -> Out
+    ensures { λ r. ⌜ r ≡ stays s 8 0 (standingIn s) ⌝ }
+{
+    stopped(s, 8)
 }

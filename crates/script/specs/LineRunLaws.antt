@@ -28,6 +28,7 @@ use Rattle.record.specs.StepRecord.{answerFor, outFor, stays, stepOf}
 use Rattle.record.specs.DemandRecord.{requestFor, readOut, standingIn, inMemory, callRecord}
 use Rattle.record.specs.declared.State.{State}
 use Rattle.record.specs.declared.Out.{Out}
+use Rattle.record.specs.declared.Answer.{Answer}
 use Rattle.record.specs.declared.Request.{Request}
 use Rattle.syntax.specs.Form.{sameBytes, stepOn}
 use Rattle.syntax.specs.LogLine.{lineBytes, headerBytes, logBytes, badBytes}
@@ -106,19 +107,35 @@ malformed-ruled k T e = ap (stays k 14 0) (stands-ruled k e) ∙ ap (λ z. stays
 
 -- by what became of the log line: it was written, or it had no room
 module _ (k : State) (o : Out) (memory : List ℕ) where
-  pub reported-next : (n : ℕ) → putAnswer memory 0 (lineFor (o .answer)) ≡ Next n → reported k o memory ≡ ranWith o n
+  reported-next : (n : ℕ) → putAnswer memory 0 (lineFor (o .answer)) ≡ Next n → reported k o memory ≡ ranWith o n
   unfolding putAnswer reported
   reported-next n e = elim (which (room memory 0 (lineFor (o .answer)))) [
     | inl r ↦ let z : Next (0 + length (lineFor (o .answer))) ≡ Next n = rw r at e in rw r (ap (ranWith o) (let y : 0 + length (lineFor (o .answer)) ≡ n = cc in omega (arith, y)))
     | inr r ↦ let z : Full ≡ Next n = rw r at e in absurd (let y : _≡_ {A = ℕ} 0 1 = cc in omega arith)
   ]
 
-  pub reported-full : putAnswer memory 0 (lineFor (o .answer)) ≡ Full → reported k o memory ≡ ranWith (stays k 8 0 (standingIn k)) 0
+  reported-full : putAnswer memory 0 (lineFor (o .answer)) ≡ Full → reported k o memory ≡ ranWith (stays k 8 0 (standingIn k)) 0
   unfolding putAnswer reported
   reported-full e = elim (which (room memory 0 (lineFor (o .answer)))) [
     | inl r ↦ let z : Next (0 + length (lineFor (o .answer))) ≡ Full = rw r at e in absurd (let y : _≡_ {A = ℕ} 0 1 = cc in omega arith)
     | inr r ↦ rw r
   ]
+
+-- a line by the case of its answer: a is the answer, with its own number, value and task
+module _ (k : State) (line memory : List ℕ) (o : Out) (is : o ≡ lineAnswered k (stepOn line)) (a : Answer) (e : o .answer ≡ a) where
+  pub line-written : (n : ℕ) → putAnswer memory 0 (lineFor a) ≡ Next n → (record { state = o .state; answer = a; written = n }) ≡ ranLine k line memory
+  unfolding ranLine
+  line-written n put =
+      (λ i. record { state = o .state; answer = sym e i; written = n })
+      ∙ sym (reported-next k o memory n (ap (λ b. putAnswer memory 0 (lineFor b)) e ∙ put)) ∙ ap (λ p. reported k p memory) is
+
+  pub line-full : putAnswer memory 0 (lineFor a) ≡ Full → ranWith (stays k 8 0 (standingIn k)) 0 ≡ ranLine k line memory
+  unfolding ranLine
+  line-full put = sym (reported-full k o memory (ap (λ b. putAnswer memory 0 (lineFor b)) e ∙ put)) ∙ ap (λ p. reported k p memory) is
+
+  pub line-memory : putBytes memory 0 (lineFor a) ≡ memoryLine k line memory
+  unfolding memoryLine
+  line-memory = ap (λ b. putBytes memory 0 (lineFor b)) (sym e) ∙ ap (λ p. putBytes memory 0 (lineFor (p .answer))) is
 
 pub head-good : (line : List ℕ) → sameBytes line headerBytes ≡ true → (headLog line ≡ logBytes) × (headStage line ≡ running)
 unfolding headLog headStage

@@ -12,7 +12,7 @@ use borrow.Author.Tests.{eq-eqb, ne-eqb, lt-ltb, le-ltb, ltb-true, leb-true}
 use Rattle.lists.specs.TestLaws.{which, clash, by-test}
 use Rattle.arrive.specs.Arrive.{Arrival, Line}
 use Rattle.arrive.specs.Calls.{calls, noCall, behindArrivals}
-use Rattle.arrive.specs.Feed.{fed, carryAfter, lineOf, arrivalsOf, lastFound}
+use Rattle.arrive.specs.Feed.{fed, carryAfter, foundLine, arrivalsOf, lastFound}
 use Rattle.arrive.specs.FeedArrivalLaws.{feed-on}
 use Rattle.arrive.specs.declared.Fed.{Fed}
 use Rattle.arrive.specs.declared.Found.{Found}
@@ -36,14 +36,14 @@ nothingb found.Long = false
 nothingb found.Nothing = true
 
 module _ (k : State) (stage : ℕ) (carry bytes memory : List ℕ) where
-  pub line-lineTaken : (f : Found) → nothingb f ≡ false → lineTaken k stage (lineOf carry bytes f) memory ≡ foundTaken k stage (arrivalsOf carry bytes f) memory
+  pub line-lineTaken : (f : Found) → nothingb f ≡ false → lineTaken k stage (foundLine carry bytes f) memory ≡ foundTaken k stage (arrivalsOf carry bytes f) memory
   unfolding nothingb foundTaken lineIn
   line-lineTaken (found.Part start end) e = refl
   line-lineTaken (found.Carried n) e = refl
   line-lineTaken found.Long e = refl
   line-lineTaken found.Nothing e = absurd (clash refl e)
 
-  pub line-memory : (f : Found) → nothingb f ≡ false → takenMemory k stage (lineOf carry bytes f) memory ≡ foundMemory k stage (arrivalsOf carry bytes f) memory
+  pub line-memory : (f : Found) → nothingb f ≡ false → takenMemory k stage (foundLine carry bytes f) memory ≡ foundMemory k stage (arrivalsOf carry bytes f) memory
   unfolding nothingb foundMemory lineIn
   line-memory (found.Part start end) e = refl
   line-memory (found.Carried n) e = refl
