@@ -2,9 +2,9 @@
 use mathlib.Core.Path.{_≡_, refl, ap, sym, _∙_}
 use mathlib.Core.List.{List, [], _∷_, _++_}
 use mathlib.Core.Bool.{Bool, true, false, cond}
-use mathlib.Core.Logic.{inl, inr}
+use mathlib.Core.Logic.{_⊎_, inl, inr}
 use mathlib.Core.Option.{Option, none, some}
-use Prim.Native.Nat.{ℕ, _+_, _≤_}
+use Prim.Native.Nat.{ℕ, _+_, _≤_, _<_}
 use native.Mathlib.Omega.{arith}
 use lib.Dec.{leb}
 use lib.ListN.{length, drop, length-append}
@@ -24,7 +24,8 @@ use Rattle.record.specs.Record.{view}
 use Rattle.record.specs.SoundRecord.{soundOf}
 use Rattle.record.specs.GoodRecord.{Typed}
 use Rattle.record.specs.SoundPackLaws.{sound-pack}
-use Rattle.record.specs.StepRecord.{answerFor, outFor, stays, stepOf}
+use Rattle.record.specs.StepRecord.{numberOf, answerFor, outFor, stays, stepOf}
+use Rattle.record.specs.DemandRecordLaws.{refused-stays}
 use Rattle.record.specs.DemandRecord.{requestFor, readOut, standingIn, inMemory, callRecord}
 use Rattle.record.specs.declared.State.{State}
 use Rattle.record.specs.declared.Out.{Out}
@@ -104,6 +105,34 @@ stands-ruled k e = rw (e, view-sound k e) (sym (view-runs k))
 pub malformed-ruled : (k : State) → Typed k → soundOf k ≡ true → lineAnswered k none ≡ outFor (malformed (view k))
 unfolding lineAnswered stays outFor answerFor malformed
 malformed-ruled k T e = ap (stays k 14 0) (stands-ruled k e) ∙ ap (λ z. stays z 14 0 (standing (view k))) (sym (sound-pack k e T))
+
+-- the lent memory behind a line that was run: the log line of its answer stands at the front and every byte behind it as it was, or, with the
+-- log's 8 for want of room, every byte as it was
+pub data Logged (k : State) (memory : List ℕ) (r : Ran) (after : List ℕ) : Type 0 where
+  at-the-front : r .written ≡ length (lineFor (r .answer)) → after ≡ lineFor (r .answer) ++ drop (r .written) memory → Logged k memory r after
+  without-room : r .answer ≡ (stays k 8 0 (standingIn k)) .answer → after ≡ memory → Logged k memory r after
+
+refused-answered : (k : State) (o : Option Step) → Typed k → 1 < numberOf ((lineAnswered k o) .answer) → (lineAnswered k o) .state ≡ k
+unfolding lineAnswered stays
+refused-answered k none T h = refl
+refused-answered k (some x) T h = refused-stays k (requestFor x) T h
+
+-- demand 1 as a script meets it: a number other than 0 and 1 leaves the record as it was, and of the lent memory all but the answer's log line
+pub refused-line : (k : State) (line memory : List ℕ) → Typed k → 1 < numberOf ((ranLine k line memory) .answer)
+    → ((ranLine k line memory) .state ≡ k) × Logged k memory (ranLine k line memory) (memoryLine k line memory)
+unfolding ranLine memoryLine reported putBytes stays
+refused-line k line memory T = go (which (room memory 0 log))
+  where
+    o : Out
+    o = lineAnswered k (stepOn line)
+
+    log : List ℕ
+    log = lineFor (o .answer)
+
+    go : (room memory 0 log ≡ true) ⊎ (room memory 0 log ≡ false) → 1 < numberOf ((reported k o memory) .answer)
+        → ((reported k o memory) .state ≡ k) × Logged k memory (reported k o memory) (putBytes memory 0 log)
+    go (inl e) = rw e (λ h. (refused-answered k (stepOn line) T h, at-the-front refl (ap (λ n. log ++ drop n memory) (from-front log))))
+    go (inr e) = rw e (λ h. (refl, without-room refl refl))
 
 -- by what became of the log line: it was written, or it had no room
 module _ (k : State) (o : Out) (memory : List ℕ) where

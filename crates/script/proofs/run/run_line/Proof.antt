@@ -49,9 +49,10 @@ returns-2 c =
     let a = c .before .before .before .before .before .before .before .before .before .before .before .before .before .before .before .before .before .args in
     let o = c .before .before .before .before .before .before .before .before .before .before .before .before .before .before .answer-line in
     let w = c .before .before .before .before .before .write-line .ensures in
-    let is = c .before .before .before .before .before .before .before .before .before .before .before .a2 .given .1 ∙ c .before .before .before .before .before .before .before .before .a3 .given .1 in
-    (line-written (a .s) (a .line .now) (a .log .now) (o .result) (o .ensures) _ is _ (sym (w .0) ∙ c .before .n .given .1),
-      w .1 ∙ line-memory (a .s) (a .line .now) (a .log .now) (o .result) (o .ensures) _ is)
+    let is = c .before .before .before .before .before .before .before .before .before .before .before .a2 .given .1 ∙ c .before .before .before .before .before .before .before .before .a3 .given .1 in (
+      line-written (a .s) (a .line .now) (a .log .now) (o .result) (o .ensures) _ is _ (sym (w .0) ∙ c .before .n .given .1),
+      w .1 ∙ line-memory (a .s) (a .line .now) (a .log .now) (o .result) (o .ensures) _ is,
+    )
 
 same-length-2 : tie.Need-same-length-2
 same-length-2 c = search needs
@@ -62,9 +63,10 @@ returns-3 c =
     let a = c .before .before .before .before .before .before .before .before .before .before .before .before .before .before .before .before .before .args in
     let o = c .before .before .before .before .before .before .before .before .before .before .before .before .before .before .answer-line in
     let w = c .before .before .before .before .before .write-line .ensures in
-    let is = c .before .before .before .before .before .before .before .before .before .before .before .a2 .given .1 ∙ c .before .before .before .before .before .before .before .before .a3 .given .1 in
-    (c .without-room2 .ensures ∙ line-full (a .s) (a .line .now) (a .log .now) (o .result) (o .ensures) _ is (sym (w .0) ∙ c .before .enum-told2 .given .1),
-      w .1 ∙ line-memory (a .s) (a .line .now) (a .log .now) (o .result) (o .ensures) _ is)
+    let is = c .before .before .before .before .before .before .before .before .before .before .before .a2 .given .1 ∙ c .before .before .before .before .before .before .before .before .a3 .given .1 in (
+      c .without-room2 .ensures ∙ line-full (a .s) (a .line .now) (a .log .now) (o .result) (o .ensures) _ is (sym (w .0) ∙ c .before .enum-told2 .given .1),
+      w .1 ∙ line-memory (a .s) (a .line .now) (a .log .now) (o .result) (o .ensures) _ is,
+    )
 
 write-line-requires-2 : tie.Need-write-line-requires-2
 write-line-requires-2 c κs = search needs
@@ -87,9 +89,10 @@ returns-4 c =
     let a = c .before .before .before .before .before .before .before .before .before .before .before .before .before .before .args in
     let o = c .before .before .before .before .before .before .before .before .before .before .before .answer-line in
     let w = c .before .before .before .before .before .write-line2 .ensures in
-    let is = c .before .before .before .before .before .before .before .before .a .given .1 in
-    (line-written (a .s) (a .line .now) (a .log .now) (o .result) (o .ensures) _ is _ (sym (w .0) ∙ c .before .n2 .given .1),
-      w .1 ∙ line-memory (a .s) (a .line .now) (a .log .now) (o .result) (o .ensures) _ is)
+    let is = c .before .before .before .before .before .before .before .before .a .given .1 in (
+      line-written (a .s) (a .line .now) (a .log .now) (o .result) (o .ensures) _ is _ (sym (w .0) ∙ c .before .n2 .given .1),
+      w .1 ∙ line-memory (a .s) (a .line .now) (a .log .now) (o .result) (o .ensures) _ is,
+    )
 
 same-length-4 : tie.Need-same-length-4
 same-length-4 c = search needs
@@ -100,9 +103,10 @@ returns-5 c =
     let a = c .before .before .before .before .before .before .before .before .before .before .before .before .before .before .args in
     let o = c .before .before .before .before .before .before .before .before .before .before .before .answer-line in
     let w = c .before .before .before .before .before .write-line2 .ensures in
-    let is = c .before .before .before .before .before .before .before .before .a .given .1 in
-    (c .without-room3 .ensures ∙ line-full (a .s) (a .line .now) (a .log .now) (o .result) (o .ensures) _ is (sym (w .0) ∙ c .before .enum-told3 .given .1),
-      w .1 ∙ line-memory (a .s) (a .line .now) (a .log .now) (o .result) (o .ensures) _ is)
+    let is = c .before .before .before .before .before .before .before .before .a .given .1 in (
+      c .without-room3 .ensures ∙ line-full (a .s) (a .line .now) (a .log .now) (o .result) (o .ensures) _ is (sym (w .0) ∙ c .before .enum-told3 .given .1),
+      w .1 ∙ line-memory (a .s) (a .line .now) (a .log .now) (o .result) (o .ensures) _ is,
+    )
 
 pub run-line-spec : {M : Type 1} → statement M
 run-line-spec =
