@@ -3,6 +3,7 @@ pub mod LineRun
 pub mod WholeLog
 pub mod Session
 pub mod Pieces
+pub mod ToCome
 pub mod LineRunLaws
 pub mod WholeLogLaws
 pub mod SessionLaws

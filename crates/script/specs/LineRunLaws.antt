@@ -152,19 +152,19 @@ module _ (k : State) (o : Out) (memory : List ℕ) where
 
 -- a line by the case of its answer: a is the answer, with its own number, value and task
 module _ (k : State) (line memory : List ℕ) (o : Out) (is : o ≡ lineAnswered k (stepOn line)) (a : Answer) (e : o .answer ≡ a) where
-  pub line-written : (n : ℕ) → putAnswer memory 0 (lineFor a) ≡ Next n → (record { state = o .state; answer = a; written = n }) ≡ ranLine k line memory
+  pub answer-written : (n : ℕ) → putAnswer memory 0 (lineFor a) ≡ Next n → (record { state = o .state; answer = a; written = n }) ≡ ranLine k line memory
   unfolding ranLine
-  line-written n put =
+  answer-written n put =
       (λ i. record { state = o .state; answer = sym e i; written = n })
       ∙ sym (reported-next k o memory n (ap (λ b. putAnswer memory 0 (lineFor b)) e ∙ put)) ∙ ap (λ p. reported k p memory) is
 
-  pub line-full : putAnswer memory 0 (lineFor a) ≡ Full → ranWith (stays k 8 0 (standingIn k)) 0 ≡ ranLine k line memory
+  pub answer-full : putAnswer memory 0 (lineFor a) ≡ Full → ranWith (stays k 8 0 (standingIn k)) 0 ≡ ranLine k line memory
   unfolding ranLine
-  line-full put = sym (reported-full k o memory (ap (λ b. putAnswer memory 0 (lineFor b)) e ∙ put)) ∙ ap (λ p. reported k p memory) is
+  answer-full put = sym (reported-full k o memory (ap (λ b. putAnswer memory 0 (lineFor b)) e ∙ put)) ∙ ap (λ p. reported k p memory) is
 
-  pub line-memory : putBytes memory 0 (lineFor a) ≡ memoryLine k line memory
+  pub answer-memory : putBytes memory 0 (lineFor a) ≡ memoryLine k line memory
   unfolding memoryLine
-  line-memory = ap (λ b. putBytes memory 0 (lineFor b)) (sym e) ∙ ap (λ p. putBytes memory 0 (lineFor (p .answer))) is
+  answer-memory = ap (λ b. putBytes memory 0 (lineFor b)) (sym e) ∙ ap (λ p. putBytes memory 0 (lineFor (p .answer))) is
 
 pub head-good : (line : List ℕ) → sameBytes line headerBytes ≡ true → (headLog line ≡ logBytes) × (headStage line ≡ running)
 unfolding headLog headStage

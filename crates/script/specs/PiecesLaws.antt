@@ -1,51 +1,41 @@
--- The log of a script is its whole log, in whatever pieces its bytes arrive, if each piece has room for its log lines.
+-- The log of a script is its whole log, in whatever pieces its bytes arrive and however much memory is lent: at every moment the log so far, and
+-- what is still to come of the bytes that are left over and those that arrive later, are the whole log.
 use mathlib.Core.Path.{_≡_, refl, ap, sym, _∙_}
 use mathlib.Core.List.{List, [], _∷_, _++_, append-nil, append-assoc, map, flatten}
 use mathlib.Core.Bool.{Bool, true, false, cond}
 use mathlib.Core.Logic.{inl, inr}
-use mathlib.Core.Option.{none}
-use Prim.Native.Nat.{ℕ, _+_, _*_, _≤_, _<_}
+use mathlib.Core.Option.{none, some}
+use Prim.Native.Nat.{ℕ, zero, suc, _+_, _≤_, _<_}
 use native.Mathlib.Omega.{arith}
-use lib.Dec.{eqb, leb}
-use lib.ListN.{length}
-use borrow.Author.Tests.{eqb-true, leb-false, lt-leb}
-use Rattle.lists.specs.TestLaws.{which, by-test}
-use Rattle.arrive.specs.Arrive.{Arrival, Line, Unended, Held, grown, arrivals, marked}
-use Rattle.arrive.specs.Calls.{pieceCalls, allHanded}
-use Rattle.arrive.specs.CallsLaws.{calls-right, handed-lines}
+use lib.Dec.{eqb, leb, ltb}
+use lib.ListN.{length, take, drop, length-append}
+use lib.Seq.{length-take-le, take-append-le, take-at}
+use borrow.Author.Tests.{eqb-true, eqb-false, leb-true, leb-false, lt-leb, ltb-true}
+use Rattle.lists.specs.TestLaws.{which, by-test, none-some, some-same}
+use Rattle.arrive.specs.Arrive.{Arrival, Line, Unended, Held, arrivals, unendedAfter, finished, arrived, marked}
+use Rattle.arrive.specs.ArriveLaws.{arrivals-append, after-append, arrived-lines}
+use Rattle.arrive.specs.Feed.{unendedOf, lineCarry, fed, carryAfter, lastFound, arrivalsOf}
+use Rattle.arrive.specs.FeedArrivalLaws.{of-none, feed-length, feed-arrivals, feed-after, last-arrival}
 use Rattle.text.specs.Cut.{pieces}
 use Rattle.text.specs.Fields.{fields}
-use Rattle.arrive.specs.Feed.{lastFound, arrivalsOf, unendedOf}
-use Rattle.text.specs.Lines.{lf, lines}
+use Rattle.text.specs.Lines.{lines, lineFrom, lineEnd}
+use Rattle.text.specs.Place.{room, putBytes}
+use Rattle.text.specs.PlaceLaws.{put-laid, put-kept, length-put}
 use Rattle.record.specs.DemandRecord.{freshRecord}
 use Rattle.record.specs.declared.State.{State}
 use Rattle.syntax.specs.Ascii.{ascii}
 use Rattle.syntax.specs.Form.{longest, words, sameBytes, formOf, numbersOf, madeFrom, stepIn, stepOn}
 use Rattle.syntax.specs.LogLine.{headerBytes, logBytes, badBytes}
+use Rattle.syntax.specs.SameLaws.{same-length}
 use Rattle.script.specs.LineRun.{awaiting, running, over, lineAnswered, lineFor, headLog, headStage}
 use Rattle.script.specs.WholeLog.{logFrom, logOf, wholeLog}
-use Rattle.script.specs.Session.{lineIn, takeAll, through, pieceRun, lastArrivals, leftArrivals, endRun, freshSession, standFor, movedTo}
-use Rattle.script.specs.Pieces.{Piece, lineRoom, AllRoomy, more-roomy, written, piecesLog}
-use Rattle.arrive.specs.declared.Found.{Found}
-use Rattle.arrive.specs.declared.Found.the-variants as found
-use Rattle.script.specs.SessionLaws.{one-left}
-use Rattle.script.specs.RoomLaws.{lineLog, lineState, lineStage, arrivalsLog, arrivalsState, arrivalsStage, arrivals-stand, written-after, arrivals-room}
-use Rattle.syntax.specs.SameLaws.{same-length}
+use Rattle.script.specs.Session.{lineLog, lineState, lineStage, lineIn, foundTaken, foundMemory, turned, Stand, lineAt, turnAt, standAt, Through, through, pieceRun, lastArrivals, leftArrivals, endRun, endMemory, freshSession, standFor}
+use Rattle.script.specs.SessionLaws.{turn-next, one-left, end-stopped}
+use Rattle.script.specs.RoomLaws.{found-stands, one-arrival, written, turn-fits, turn-state, turn-stage, turn-log}
+use Rattle.script.specs.ToCome.{arrivalsLog, arrivalsState, arrivalsStage, closing, allLog, toCome, comes}
+use Rattle.script.specs.Pieces.{Piece, Underway, starting, onward, underway, ended}
 use Rattle.script.specs.declared.session.Session.{Session}
-
--- a piece has at most as many lines' ends as bytes
-few-arrivals : (most : ℕ) (s : Unended) (text : List ℕ) → length (arrivals most s text) ≤ length text
-unfolding arrivals
-few-arrivals most s [] = omega arith
-few-arrivals most s (c ∷ cs) = elim (which (eqb c lf)) [
-  | inl e ↦ rw e (omega (arith, few-arrivals most (Held []) cs))
-  | inr e ↦ rw e (omega (arith, few-arrivals most (grown most s c) cs))
-]
-
-few-handed : (carry : List ℕ) (held : ℕ) (bytes : List ℕ) → length (pieceCalls carry held bytes .handed) ≤ length bytes
-few-handed carry held bytes =
-    let r = calls-right (length bytes) carry held bytes 0 (omega arith) in
-    rw (r .handed) (few-arrivals (length carry) (unendedOf carry held) bytes)
+use Rattle.script.specs.declared.session.Moved.{Moved}
 
 -- in two rows
 log-append : (a b : List Arrival) (k : State) (stage : ℕ) → arrivalsLog k stage (a ++ b) ≡ arrivalsLog k stage a ++ arrivalsLog (arrivalsState k stage a) (arrivalsStage stage a) b
@@ -59,14 +49,6 @@ stage-append : (a b : List Arrival) (stage : ℕ) → arrivalsStage stage (a ++ 
 unfolding arrivalsStage
 stage-append [] b stage = refl
 stage-append (e ∷ a) b stage = stage-append a b (lineStage stage (lineIn e))
-
--- what is left to say at the end: `bad` where not even a first line came
-unfoldable closing : ℕ → List ℕ
-closing stage = cond (eqb stage awaiting) badBytes []
-
--- the log that a row of lines comes to, the end included
-unfoldable allLog : State → ℕ → List Arrival → List ℕ
-allLog k stage es = arrivalsLog k stage es ++ closing (arrivalsStage stage es)
 
 -- after a line, a first line is awaited no more
 line-moves : (stage : ℕ) (line : List ℕ) → closing (lineStage stage line) ≡ []
@@ -98,46 +80,198 @@ end-log k stage [] h = elim (which (eqb stage awaiting)) [
 end-log k stage (e ∷ []) h = sym (rw (line-moves stage (lineIn e)) (append-nil (lineLog k stage (lineIn e) ++ [])))
 end-log k stage (e ∷ d ∷ es) h = absurd (omega arith)
 
--- what a row of lines with room puts into the lent memory
-row-log : (s : Session) (memory : List ℕ) (es : List Arrival) → lineRoom * length es ≤ length memory
-    → written (takeAll (standFor s memory) es) ≡ arrivalsLog (s .state) (s .stage) es
-row-log s memory es h =
-    ap written (arrivals-stand es (standFor s memory) (omega arith))
-    ∙ written-after (standFor s memory) (arrivalsState (s .state) (s .stage) es) (arrivalsStage (s .stage) es) (arrivalsLog (s .state) (s .stage) es)
-    (omega (arith, arrivals-room es (s .state) (s .stage)))
+all-append : (a b : List Arrival) (k : State) (stage : ℕ) → allLog k stage (a ++ b) ≡ arrivalsLog k stage a ++ allLog (arrivalsState k stage a) (arrivalsStage stage a) b
+unfolding allLog
+all-append a b k stage =
+    rw (log-append a b k stage, stage-append a b stage)
+    (append-assoc (arrivalsLog k stage a) (arrivalsLog (arrivalsState k stage a) (arrivalsStage stage a) b) (closing (arrivalsStage (arrivalsStage stage a) b)))
 
-one-arrival : (carry : List ℕ) (f : Found) → length (arrivalsOf carry [] f) ≤ 1
-one-arrival carry (found.Part start end) = omega arith
-one-arrival carry (found.Carried n) = omega arith
-one-arrival carry found.Long = omega arith
-one-arrival carry found.Nothing = omega arith
+-- a call leaves the first bytes of the carry, which it holds of a line, as they were
+module _ (carry : List ℕ) (held : ℕ) where
+  put-behind : (part : List ℕ) → unendedOf (putBytes carry held part) held ≡ unendedOf carry held
+  unfolding unendedOf
+  put-behind part = elim (which (room carry held part)) [
+    | inl r ↦
+        let h : held + length part ≤ length carry = leb-true _ _ r in
+        let n : length (take held carry) ≡ held = length-take-le held carry (omega arith) in
+        let front : take held (putBytes carry held part) ≡ take held carry =
+        ap (take held) (put-laid carry held part h)
+        ∙ take-append-le held (take held carry ++ part) (drop (held + length part) carry) (omega (arith, n, length-append (take held carry) part))
+        ∙ take-at (take held carry) part held n in
+        rw (length-put carry held part, front)
+    | inr r ↦ rw (put-kept carry held part (leb-false _ _ r))
+  ]
 
-last-log : (s : Session) (carry last : List ℕ) → lineRoom ≤ length last
-    → written (endRun s carry last) ≡ allLog (s .state) (s .stage) (arrivalsOf carry [] (lastFound carry (s .held)))
-unfolding endRun leftArrivals
-last-log s carry last h =
+  stays-held : (bytes : List ℕ) (at : ℕ) → unendedOf (carryAfter carry held bytes at) held ≡ unendedOf carry held
+  unfolding carryAfter lineCarry
+  stays-held bytes at = elim (which (ltb (lineEnd bytes at) (length bytes))) [
+    | inl e ↦ rw e (elim (which (eqb held 0)) [ inl f ↦ rw f | inr f ↦ rw f (put-behind (lineFrom bytes at)) ])
+    | inr e ↦ rw e (put-behind (lineFrom bytes at))
+  ]
+
+-- what is written within a piece, and what is then still to come
+unfoldable cameTo : ℕ → List ℕ → List (List ℕ) → Through → List ℕ
+cameTo most bytes later t = written (t .stand) ++ toCome most (t .stand .state) (t .stand .stage) (t .carry) (t .held) (drop (t .next) bytes) later
+
+module _ (bytes : List ℕ) (later : List (List ℕ)) where
+  -- up to the next line's end and from there on
+  arrived-turn : (at : ℕ) (carry : List ℕ) (held : ℕ)
+      → arrived (length carry) (unendedOf carry held) (drop at bytes ∷ later)
+      ≡ arrivalsOf (carryAfter carry held bytes at) bytes (fed carry held bytes at .found)
+      ++ arrived (length carry) (unendedOf (carryAfter carry held bytes at) (fed carry held bytes at .held)) (drop (fed carry held bytes at .next) bytes ∷ later)
+  unfolding arrived
+  arrived-turn at carry held =
+      rw (feed-arrivals carry held bytes at, feed-after carry held bytes at)
+      (append-assoc (arrivalsOf (carryAfter carry held bytes at) bytes (fed carry held bytes at .found)) (arrivals (length carry) (unendedOf (carryAfter carry held bytes at) (fed carry held bytes at .held)) (drop (fed carry held bytes at .next) bytes)) _)
+
+  -- a turn moves a line from what is to come to what is written
+  module _ (at : ℕ) (x : Stand) (carry : List ℕ) (held : ℕ) (fits : x .written ≤ length (x .memory)) (n : (turnAt bytes at x carry held) .number ≡ 0) where
+    turn-came : cameTo (length carry) bytes later (record { stand = x; carry = carry; held = held; next = at; number = 0 })
+        ≡ cameTo (length carry) bytes later
+        (record {
+          stand = standAt bytes at x carry held;
+          carry = carryAfter carry held bytes at;
+          held = (turnAt bytes at x carry held) .held;
+          next = (turnAt bytes at x carry held) .next;
+          number = 0;
+        })
+    unfolding cameTo toCome turnAt turned
+    turn-came =
+        let es = lineAt bytes at carry held in
+        let rest = arrived (length carry) (unendedOf (carryAfter carry held bytes at) (fed carry held bytes at .held)) (drop (fed carry held bytes at .next) bytes ∷ later) in
+        let k = arrivalsState (x .state) (x .stage) es in
+        let stage = arrivalsStage (x .stage) es in
+        ap (λ l. written x ++ allLog (x .state) (x .stage) l) (arrived-turn at carry held)
+        ∙ ap (λ l. written x ++ l) (all-append es rest (x .state) (x .stage))
+        ∙ sym (append-assoc (written x) (arrivalsLog (x .state) (x .stage) es) (allLog k stage rest))
+        ∙ (λ i. sym (turn-log bytes at x carry held fits n) i ++ allLog (sym (turn-state bytes at x carry held fits n) i) (sym (turn-stage bytes at x carry held fits n) i) rest)
+
+  -- so from any place of a piece on, whether it stops or not
+  through-came : (fuel at : ℕ) (x : Stand) (carry : List ℕ) (held : ℕ) → length bytes ≤ at + fuel → x .written ≤ length (x .memory)
+      → cameTo (length carry) bytes later (record { stand = x; carry = carry; held = held; next = at; number = 0 }) ≡ cameTo (length carry) bytes later (through fuel bytes at x carry held)
+  unfolding through cameTo toCome
+  through-came zero at x carry held h fits = refl
+  through-came (suc fuel) at x carry held h fits = elim (which (ltb at (length bytes))) [
+    | inl e ↦ elim (which (eqb ((turnAt bytes at x carry held) .number) 0)) [
+      | inl n ↦
+          let z : (turnAt bytes at x carry held) .number ≡ 0 = eqb-true _ _ n in
+          let on = turn-next bytes at x carry held (ltb-true _ _ e) in
+          let rest = through-came fuel ((turnAt bytes at x carry held) .next) (standAt bytes at x carry held) (carryAfter carry held bytes at) ((turnAt bytes at x carry held) .held) (omega arith) (turn-fits bytes at x carry held fits) in
+          rw (e, n) (turn-came at x carry held fits z ∙ (rw (feed-length carry held bytes at) at rest))
+      | inr n ↦ rw (e, n) (stopped ((turnAt bytes at x carry held) .number))
+    ]
+    | inr e ↦ rw e refl
+  ]
+    where
+      stopped : (number : ℕ) → cameTo (length carry) bytes later (record { stand = x; carry = carry; held = held; next = at; number = 0 })
+          ≡ cameTo (length carry) bytes later (record { stand = x; carry = carryAfter carry held bytes at; held = held; next = at; number = number })
+      stopped number = ap (λ s. written x ++ allLog (x .state) (x .stage) (arrived (length carry) s (drop at bytes ∷ later))) (sym (stays-held carry held bytes at))
+
+through-size : (fuel : ℕ) (bytes : List ℕ) (at : ℕ) (x : Stand) (carry : List ℕ) (held : ℕ) → length ((through fuel bytes at x carry held) .carry) ≡ length carry
+unfolding through
+through-size zero bytes at x carry held = refl
+through-size (suc fuel) bytes at x carry held = elim (which (ltb at (length bytes))) [
+  | inl e ↦ elim (which (eqb ((turnAt bytes at x carry held) .number) 0)) [
+    | inl n ↦
+        rw (e, n)
+        (through-size fuel bytes ((turnAt bytes at x carry held) .next) (standAt bytes at x carry held) (carryAfter carry held bytes at) ((turnAt bytes at x carry held) .held) ∙ feed-length carry held bytes at)
+    | inr n ↦ rw (e, n) (feed-length carry held bytes at)
+  ]
+  | inr e ↦ rw e
+]
+
+-- what was left over and what newly arrived are one text
+arrived-join : (s : Unended) (most : ℕ) (a b : List ℕ) (later : List (List ℕ)) → arrived most s (a ∷ b ∷ later) ≡ arrived most s ((a ++ b) ∷ later)
+unfolding arrived
+arrived-join s most a b later =
+    rw (arrivals-append most s a b, after-append most s a b)
+    (sym (append-assoc (arrivals most s a) (arrivals most (unendedAfter most s a) b) (arrived most (unendedAfter most (unendedAfter most s a) b) later)))
+
+joined : (u : Underway) (p : Piece) (later : List (List ℕ))
+    → comes u (p .bytes ∷ later)
+    ≡ cameTo (length (u .carry)) (u .left ++ p .bytes) later (record { stand = standFor (u .session) (p .memory); carry = u .carry; held = u .session .held; next = 0; number = 0 })
+unfolding comes toCome cameTo
+joined u p later = ap (allLog (u .session .state) (u .session .stage)) (arrived-join (unendedOf (u .carry) (u .session .held)) (length (u .carry)) (u .left) (p .bytes) later)
+
+after : (log : List ℕ) (t : Through) (bytes : List ℕ) (later : List (List ℕ))
+    → log ++ cameTo (length (t .carry)) bytes later t
+    ≡ log ++ written (t .stand) ++ toCome (length (t .carry)) (t .stand .state) (t .stand .stage) (t .carry) (t .held) (drop (t .next) bytes) later
+unfolding cameTo
+after log t bytes later = sym (append-assoc log (written (t .stand)) (toCome (length (t .carry)) (t .stand .state) (t .stand .stage) (t .carry) (t .held) (drop (t .next) bytes) later))
+
+call-came : (u : Underway) (p : Piece) (later : List (List ℕ)) → u .log ++ comes u (p .bytes ∷ later) ≡ (onward u p) .log ++ comes (onward u p) later
+unfolding onward pieceRun comes
+call-came u p later =
+    let bytes = u .left ++ p .bytes in
+    let k = u .session .state in
+    let stage = u .session .stage in
+    let held = u .session .held in
+    let t = through (length bytes) bytes 0 (standFor (u .session) (p .memory)) (u .carry) held in
+    let first : comes u (p .bytes ∷ later) ≡ cameTo (length (u .carry)) bytes later t =
+    joined u p later ∙ through-came bytes later (length bytes) 0 (standFor (u .session) (p .memory)) (u .carry) held (omega arith) (omega arith) in
+    let size : length (t .carry) ≡ length (u .carry) = through-size (length bytes) bytes 0 (standFor (u .session) (p .memory)) (u .carry) held in
+    ap (λ l. u .log ++ l) first
+    ∙ ap (λ n. u .log ++ cameTo n bytes later t) (sym size)
+    ∙ after (u .log) t bytes later
+
+-- at every moment: the log so far, and what is still to come, are what was to come at first
+pub calls-came : (ps : List Piece) (u : Underway) (later : List (List ℕ)) → u .log ++ comes u (map (λ p. p .bytes) ps ++ later) ≡ (underway u ps) .log ++ comes (underway u ps) later
+unfolding underway
+calls-came [] u later = refl
+calls-came (p ∷ ps) u later = call-came u p (map (λ q. q .bytes) ps ++ later) ∙ calls-came ps (onward u p) later
+
+-- the end writes what is still to come where nothing is left over, or is answered 8 and changes nothing
+last-came : (s : Session) (carry memory : List ℕ) → (endRun s carry memory) .number ≡ 0
+    → take ((endRun s carry memory) .written) (endMemory s carry memory) ≡ allLog (s .state) (s .stage) (finished (unendedOf carry (s .held)))
+unfolding endRun endMemory leftArrivals
+last-came s carry memory n =
     let es = arrivalsOf carry [] (lastFound carry (s .held)) in
-    let few = one-left (s .stage) carry (s .held) in
-    row-log s last (leftArrivals (s .stage) carry (s .held)) (omega arith) ∙ end-log (s .state) (s .stage) es (one-arrival carry (lastFound carry (s .held)))
+    (found-stands (s .state) (s .stage) memory (lastArrivals (s .stage) es) (one-left (s .stage) carry (s .held)) n) .log
+    ∙ end-log (s .state) (s .stage) es (one-arrival carry [] (lastFound carry (s .held)))
+    ∙ ap (allLog (s .state) (s .stage)) (last-arrival carry (s .held))
 
--- all pieces and the end
-pieces-arrivals : (ps : List Piece) (s : Session) (carry last : List ℕ) → AllRoomy ps → lineRoom ≤ length last
-    → piecesLog s carry ps last ≡ allLog (s .state) (s .stage) (allHanded carry (s .held) (map (λ p. p .bytes) ps))
-unfolding piecesLog allHanded pieceRun through allLog
-pieces-arrivals [] s carry last r h = last-log s carry last h
-pieces-arrivals (p ∷ ps) s carry last (more-roomy r rs) h =
-    let c = pieceCalls carry (s .held) (p .bytes) in
-    let es = c .handed in
-    let k = arrivalsState (s .state) (s .stage) es in
-    let stage = arrivalsStage (s .stage) es in
-    let rest = allHanded (c .carry) (c .held) (map (λ q. q .bytes) ps) in
-    let few = few-handed carry (s .held) (p .bytes) in
-    ap (λ l. l ++ piecesLog (movedTo (through (p .bytes) 0 (standFor s (p .memory)) carry (s .held)) .session) (c .carry) ps last) (row-log s (p .memory) es (omega arith))
-    ∙ ap (λ y. arrivalsLog (s .state) (s .stage) es ++ piecesLog (record { state = y .state; stage = y .stage; held = c .held }) (c .carry) ps last)
-    (arrivals-stand es (standFor s (p .memory)) (omega arith))
-    ∙ ap (λ l. arrivalsLog (s .state) (s .stage) es ++ l) (pieces-arrivals ps (record { state = k; stage = stage; held = c .held }) (c .carry) last rs h)
-    ∙ rw (log-append es rest (s .state) (s .stage), stage-append es rest (s .stage))
-    (sym (append-assoc (arrivalsLog (s .state) (s .stage) es) (arrivalsLog k stage rest) (closing (arrivalsStage stage rest))))
+nothing-left : (u : Underway) → u .left ≡ [] → comes u [] ≡ allLog (u .session .state) (u .session .stage) (finished (unendedOf (u .carry) (u .session .held)))
+unfolding comes toCome arrived arrivals unendedAfter
+nothing-left u e = rw e
+
+end-as-handed-in : (s : Session) (carry memory : List ℕ) (n : (endRun s carry memory) .number ≡ 0 → ⊥)
+    → (record { session = s; next = 0; written = 0; number = (endRun s carry memory) .number }) ≡ endRun s carry memory
+unfolding endRun
+end-as-handed-in s carry memory n = end-stopped s carry memory (foundTaken (s .state) (s .stage) (leftArrivals (s .stage) carry (s .held)) memory) refl n
+
+stop-again : (u : Underway) (memory : List ℕ) → ((endRun (u .session) (u .carry) memory) .number ≡ 0 → ⊥)
+    → (record {
+      session = (endRun (u .session) (u .carry) memory) .session;
+      carry = u .carry;
+      left = u .left;
+      log = u .log ++ take ((endRun (u .session) (u .carry) memory) .written) (endMemory (u .session) (u .carry) memory);
+    })
+    ≡ u
+stop-again u memory n =
+    let s = u .session in
+    let m = endMemory s (u .carry) memory in
+    let e = end-as-handed-in s (u .carry) memory n in
+    (λ i. record { session = sym e i .session; carry = u .carry; left = u .left; log = u .log ++ take (sym e i .written) m })
+    ∙ (λ i. record { session = s; carry = u .carry; left = u .left; log = append-nil (u .log) i })
+
+ended-came : (more : List (List ℕ)) (u : Underway) (log : List ℕ) → u .left ≡ [] → ended u more ≡ some log → log ≡ u .log ++ comes u []
+unfolding ended
+ended-came [] u log e h = none-some refl h
+ended-came (memory ∷ more) u log e h = elim (which (eqb ((endRun (u .session) (u .carry) memory) .number) 0)) [
+  | inl n ↦
+      sym (some-same (rw n at h)) ∙ ap (λ l. u .log ++ l) (last-came (u .session) (u .carry) memory (eqb-true _ _ n) ∙ sym (nothing-left u e))
+  | inr n ↦ ended-came more u log e (ap (λ v. ended v more) (sym (again n)) ∙ (rw n at h))
+]
+  where
+    again : eqb ((endRun (u .session) (u .carry) memory) .number) 0 ≡ false
+        → (record {
+          session = (endRun (u .session) (u .carry) memory) .session;
+          carry = u .carry;
+          left = u .left;
+          log = u .log ++ take ((endRun (u .session) (u .carry) memory) .written) (endMemory (u .session) (u .carry) memory);
+        })
+        ≡ u
+    again n = stop-again u memory (eqb-false _ _ n)
 
 -- an over-long line is no step and no first line, as an empty one is none
 empty-none : stepOn [] ≡ none
@@ -199,12 +333,22 @@ all-log (l ∷ ls) = first-log freshRecord (marked longest l) (map (marked longe
     go true = ap (λ r. logBytes ++ r) (running-log ls freshRecord)
     go false = ap (λ r. badBytes ++ r) (over-log ls freshRecord) ∙ append-nil badBytes
 
--- the whole log of the whole script, however it arrived
-pub pieces-whole : (ps : List Piece) (carry last : List ℕ) → length carry ≡ longest → AllRoomy ps → lineRoom ≤ length last
-    → piecesLog freshSession carry ps last ≡ wholeLog (flatten (map (λ p. p .bytes) ps))
-unfolding freshSession wholeLog
-pieces-whole ps carry last size roomy room =
-    pieces-arrivals ps freshSession carry last roomy room
-    ∙ ap (λ es. allLog freshRecord awaiting es) (handed-lines carry (map (λ p. p .bytes) ps))
-    ∙ ap (λ n. allLog freshRecord awaiting (map (marked n) (lines (flatten (map (λ p. p .bytes) ps))))) size
-    ∙ all-log (lines (flatten (map (λ p. p .bytes) ps)))
+-- at first, all is still to come
+starting-comes : (carry : List ℕ) (later : List (List ℕ)) → length carry ≡ longest → comes (starting carry) later ≡ wholeLog (flatten later)
+unfolding comes toCome freshSession wholeLog flatten
+starting-comes carry later size =
+    rw (size, of-none carry) (ap (allLog freshRecord awaiting) (arrived-lines longest ([] ∷ later)) ∙ all-log (lines (flatten later)))
+
+-- at every moment the log so far, and what is still to come of what is left over and what arrives later, are the whole log of the whole script
+pub moment-whole : (ps : List Piece) (carry : List ℕ) (later : List (List ℕ)) → length carry ≡ longest
+    → (underway (starting carry) ps) .log ++ comes (underway (starting carry) ps) later ≡ wholeLog (flatten (map (λ p. p .bytes) ps ++ later))
+moment-whole ps carry later size = sym (calls-came ps (starting carry) later) ∙ starting-comes carry (map (λ p. p .bytes) ps ++ later) size
+
+-- so once nothing is left over and the end is answered 0, the log is the whole log, however the bytes arrived and whatever memory was lent
+pub pieces-whole : (ps : List Piece) (ends : List (List ℕ)) (carry log : List ℕ) → length carry ≡ longest
+    → (underway (starting carry) ps) .left ≡ [] → ended (underway (starting carry) ps) ends ≡ some log
+    → log ≡ wholeLog (flatten (map (λ p. p .bytes) ps))
+pieces-whole ps ends carry log size none-left answered =
+    ended-came ends (underway (starting carry) ps) log none-left answered
+    ∙ moment-whole ps carry [] size
+    ∙ ap (λ l. wholeLog (flatten l)) (append-nil (map (λ p. p .bytes) ps))

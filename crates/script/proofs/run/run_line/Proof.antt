@@ -1,7 +1,7 @@
 -- `run_line`: by the answer's case and by the room for its log line.
 use mathlib.Core.Path.{sym, _∙_}
 use Rattle.record.specs.StepRecord.{numberOf, valueOf, runOf}
-use Rattle.script.specs.LineRunLaws.{line-written, line-full, line-memory}
+use Rattle.script.specs.LineRunLaws.{answer-written, answer-full, answer-memory}
 use borrow.Author.Needs.{needs}
 use Rattle.script.proofs.run.run_line.Statement.{statement}
 use Rattle.script.proofs.run.run_line.Tie as tie
@@ -50,8 +50,8 @@ returns-2 c =
     let o = c .before .before .before .before .before .before .before .before .before .before .before .before .before .before .answer-line in
     let w = c .before .before .before .before .before .write-line .ensures in
     let is = c .before .before .before .before .before .before .before .before .before .before .before .a2 .given .1 ∙ c .before .before .before .before .before .before .before .before .a3 .given .1 in (
-      line-written (a .s) (a .line .now) (a .log .now) (o .result) (o .ensures) _ is _ (sym (w .0) ∙ c .before .n .given .1),
-      w .1 ∙ line-memory (a .s) (a .line .now) (a .log .now) (o .result) (o .ensures) _ is,
+      answer-written (a .s) (a .line .now) (a .log .now) (o .result) (o .ensures) _ is _ (sym (w .0) ∙ c .before .n .given .1),
+      w .1 ∙ answer-memory (a .s) (a .line .now) (a .log .now) (o .result) (o .ensures) _ is,
     )
 
 same-length-2 : tie.Need-same-length-2
@@ -64,8 +64,8 @@ returns-3 c =
     let o = c .before .before .before .before .before .before .before .before .before .before .before .before .before .before .answer-line in
     let w = c .before .before .before .before .before .write-line .ensures in
     let is = c .before .before .before .before .before .before .before .before .before .before .before .a2 .given .1 ∙ c .before .before .before .before .before .before .before .before .a3 .given .1 in (
-      c .without-room2 .ensures ∙ line-full (a .s) (a .line .now) (a .log .now) (o .result) (o .ensures) _ is (sym (w .0) ∙ c .before .enum-told2 .given .1),
-      w .1 ∙ line-memory (a .s) (a .line .now) (a .log .now) (o .result) (o .ensures) _ is,
+      c .without-room2 .ensures ∙ answer-full (a .s) (a .line .now) (a .log .now) (o .result) (o .ensures) _ is (sym (w .0) ∙ c .before .enum-told2 .given .1),
+      w .1 ∙ answer-memory (a .s) (a .line .now) (a .log .now) (o .result) (o .ensures) _ is,
     )
 
 write-line-requires-2 : tie.Need-write-line-requires-2
@@ -90,8 +90,8 @@ returns-4 c =
     let o = c .before .before .before .before .before .before .before .before .before .before .before .answer-line in
     let w = c .before .before .before .before .before .write-line2 .ensures in
     let is = c .before .before .before .before .before .before .before .before .a .given .1 in (
-      line-written (a .s) (a .line .now) (a .log .now) (o .result) (o .ensures) _ is _ (sym (w .0) ∙ c .before .n2 .given .1),
-      w .1 ∙ line-memory (a .s) (a .line .now) (a .log .now) (o .result) (o .ensures) _ is,
+      answer-written (a .s) (a .line .now) (a .log .now) (o .result) (o .ensures) _ is _ (sym (w .0) ∙ c .before .n2 .given .1),
+      w .1 ∙ answer-memory (a .s) (a .line .now) (a .log .now) (o .result) (o .ensures) _ is,
     )
 
 same-length-4 : tie.Need-same-length-4
@@ -104,8 +104,8 @@ returns-5 c =
     let o = c .before .before .before .before .before .before .before .before .before .before .before .answer-line in
     let w = c .before .before .before .before .before .write-line2 .ensures in
     let is = c .before .before .before .before .before .before .before .before .a .given .1 in (
-      c .without-room3 .ensures ∙ line-full (a .s) (a .line .now) (a .log .now) (o .result) (o .ensures) _ is (sym (w .0) ∙ c .before .enum-told3 .given .1),
-      w .1 ∙ line-memory (a .s) (a .line .now) (a .log .now) (o .result) (o .ensures) _ is,
+      c .without-room3 .ensures ∙ answer-full (a .s) (a .line .now) (a .log .now) (o .result) (o .ensures) _ is (sym (w .0) ∙ c .before .enum-told3 .given .1),
+      w .1 ∙ answer-memory (a .s) (a .line .now) (a .log .now) (o .result) (o .ensures) _ is,
     )
 
 pub run-line-spec : {M : Type 1} → statement M
