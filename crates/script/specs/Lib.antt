@@ -9,3 +9,4 @@ pub mod WholeLogLaws
 pub mod SessionLaws
 pub mod RoomLaws
 pub mod PiecesLaws
+pub mod ProgressLaws

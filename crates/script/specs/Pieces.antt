@@ -1,10 +1,10 @@
 -- A whole script that arrives in pieces, each with lent memory of its own: the log that is handed out, call by call.
-use Prim.Native.Nat.{ℕ}
+use Prim.Native.Nat.{ℕ, _*_, _≤_}
 use mathlib.Core.List.{List, [], _∷_, _++_}
 use mathlib.Core.Bool.{cond}
 use mathlib.Core.Option.{Option, none, some}
 use lib.Dec.{eqb}
-use lib.ListN.{take, drop}
+use lib.ListN.{length, take, drop}
 use Rattle.script.specs.Session.{freshSession, movedTo, pieceRun, endRun, endMemory}
 use Rattle.script.specs.declared.session.Session.{Session}
 
@@ -16,6 +16,14 @@ pub record Piece : Type 0 where
 -- how much room a log line takes at most: three numbers, two tabs and an LF
 abbrev pub lineRoom : ℕ
 lineRoom = 33
+
+-- room for the log lines of a piece: a line takes a byte at least, its LF
+abbrev pub Roomy : Piece → Type 0
+Roomy p = lineRoom * length (p .bytes) ≤ length (p .memory)
+
+pub data AllRoomy : List Piece → Type 0 where
+  none-roomy : AllRoomy []
+  more-roomy : {p : Piece} {ps : List Piece} → Roomy p → AllRoomy ps → AllRoomy (p ∷ ps)
 
 -- a script between two calls: the session, the carry, the bytes that a stop left over, and the log so far
 pub record Underway : Type 0 where
