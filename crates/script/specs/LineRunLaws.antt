@@ -129,38 +129,32 @@ refused-line k line memory T = go (which (room memory 0 log))
     log : List ℕ
     log = lineFor (o .answer)
 
-    go : (room memory 0 log ≡ true) ⊎ (room memory 0 log ≡ false) → 1 < numberOf ((reported k o memory) .answer)
-        → ((reported k o memory) .state ≡ k) × Logged k memory (reported k o memory) (putBytes memory 0 log)
+    go : (room memory 0 log ≡ true) ⊎ (room memory 0 log ≡ false) → 1 < numberOf ((reported k o log memory) .answer)
+        → ((reported k o log memory) .state ≡ k) × Logged k memory (reported k o log memory) (putBytes memory 0 log)
     go (inl e) = rw e (λ h. (refused-answered k (stepOn line) T h, at-the-front refl (ap (λ n. log ++ drop n memory) (from-front log))))
     go (inr e) = rw e (λ h. (refl, without-room refl refl))
 
 -- by what became of the log line: it was written, or it had no room
-module _ (k : State) (o : Out) (memory : List ℕ) where
-  reported-next : (n : ℕ) → putAnswer memory 0 (lineFor (o .answer)) ≡ Next n → reported k o memory ≡ ranWith o n
+module _ (k : State) (o : Out) (log memory : List ℕ) where
+  pub reported-next : (n : ℕ) → putAnswer memory 0 log ≡ Next n → ranWith o n ≡ reported k o log memory
   unfolding putAnswer reported
-  reported-next n e = elim (which (room memory 0 (lineFor (o .answer)))) [
-    | inl r ↦ let z : Next (0 + length (lineFor (o .answer))) ≡ Next n = rw r at e in rw r (ap (ranWith o) (let y : 0 + length (lineFor (o .answer)) ≡ n = cc in omega (arith, y)))
+  reported-next n e = elim (which (room memory 0 log)) [
+    | inl r ↦ let z : Next (0 + length log) ≡ Next n = rw r at e in rw r (ap (ranWith o) (let y : 0 + length log ≡ n = cc in omega (arith, y)))
     | inr r ↦ let z : Full ≡ Next n = rw r at e in absurd (let y : _≡_ {A = ℕ} 0 1 = cc in omega arith)
   ]
 
-  reported-full : putAnswer memory 0 (lineFor (o .answer)) ≡ Full → reported k o memory ≡ ranWith (stays k 8 0 (standingIn k)) 0
+  pub reported-full : putAnswer memory 0 log ≡ Full → ranWith (stays k 8 0 (standingIn k)) 0 ≡ reported k o log memory
   unfolding putAnswer reported
-  reported-full e = elim (which (room memory 0 (lineFor (o .answer)))) [
-    | inl r ↦ let z : Next (0 + length (lineFor (o .answer))) ≡ Full = rw r at e in absurd (let y : _≡_ {A = ℕ} 0 1 = cc in omega arith)
+  reported-full e = elim (which (room memory 0 log)) [
+    | inl r ↦ let z : Next (0 + length log) ≡ Full = rw r at e in absurd (let y : _≡_ {A = ℕ} 0 1 = cc in omega arith)
     | inr r ↦ rw r
   ]
 
 -- a line by the case of its answer: a is the answer, with its own number, value and task
 module _ (k : State) (line memory : List ℕ) (o : Out) (is : o ≡ lineAnswered k (stepOn line)) (a : Answer) (e : o .answer ≡ a) where
-  pub answer-written : (n : ℕ) → putAnswer memory 0 (lineFor a) ≡ Next n → (record { state = o .state; answer = a; written = n }) ≡ ranLine k line memory
+  pub answer-reported : reported k o (lineFor a) memory ≡ ranLine k line memory
   unfolding ranLine
-  answer-written n put =
-      (λ i. record { state = o .state; answer = sym e i; written = n })
-      ∙ sym (reported-next k o memory n (ap (λ b. putAnswer memory 0 (lineFor b)) e ∙ put)) ∙ ap (λ p. reported k p memory) is
-
-  pub answer-full : putAnswer memory 0 (lineFor a) ≡ Full → ranWith (stays k 8 0 (standingIn k)) 0 ≡ ranLine k line memory
-  unfolding ranLine
-  answer-full put = sym (reported-full k o memory (ap (λ b. putAnswer memory 0 (lineFor b)) e ∙ put)) ∙ ap (λ p. reported k p memory) is
+  answer-reported = ap (λ b. reported k o (lineFor b) memory) (sym e) ∙ ap (λ p. reported k p (lineFor (p .answer)) memory) is
 
   pub answer-memory : putBytes memory 0 (lineFor a) ≡ memoryLine k line memory
   unfolding memoryLine

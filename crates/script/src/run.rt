@@ -1,9 +1,11 @@
 // One line of a script run on a record, with lent memory for its log line.
 ghost use mathlib.Core.Path.{_≡_};
+ghost use Rattle.text.specs.Place.{putBytes};
 ghost use Rattle.record.specs.StepRecord.{stays};
 ghost use Rattle.record.specs.DemandRecord.{standingIn};
 ghost use Rattle.syntax.specs.Form.{stepOn};
-ghost use Rattle.script.specs.LineRun.{lineAnswered, ranWith, ranLine, memoryLine, headed, memoryHead};
+ghost use Rattle.syntax.specs.LogLine.{lineBytes};
+ghost use Rattle.script.specs.LineRun.{lineAnswered, ranWith, reported, ranLine, memoryLine, headed, memoryHead};
 use record::Answer;
 use record::Out;
 use record::State;
@@ -57,30 +59,13 @@ fn without_room(s: State) -> Ran
     }
 }
 
-// One line: its step made, and reported by a log line at the front of the lent memory.
-pub fn run_line(s: State, line: &[u8], log: &mut [u8]) -> Ran
-    ensures answer { λ r. ⌜ r ≡ ranLine s (now (line .entry)) (now (log .entry)) ⌝ }
-    ensures memory { λ r. ⌜ now (log .exit) ≡ memoryLine s (now (line .entry)) (now (log .entry)) ⌝ }
+// An answer logged by its number, value and task, at the front of the lent memory; without room the step isn't made.
+fn report(s: State, o: Out, number: u8, value: u32, run: u8, log: &mut [u8]) -> Ran
+    ensures answer { λ r. ⌜ r ≡ reported s o (lineBytes number value run) (now (log .entry)) ⌝ }
+    ensures memory { λ r. ⌜ now (log .exit) ≡ putBytes (now (log .entry)) 0 (lineBytes number value run) ⌝ }
 {
-    let o = answer_line(s, line);
     let a = o.answer;
     let next = o.state;
-    let Answer::Accepted { number, value, run } = a else {
-        // refused: only logged, and the record is still the one handed in
-        let Answer::Refused { number, value, run } = a else {
-            // never reached: an answer is accepted or refused
-            return without_room(s);
-        };
-        return match log::write_line(log, number, value, run) {
-            Put::Next(n) => Ran {
-                state: next,
-                answer: a,
-                written: n,
-            },
-            Put::Full => without_room(s),
-        };
-    };
-    // accepted: goes on
     match log::write_line(log, number, value, run) {
         Put::Next(n) => Ran {
             state: next,
@@ -89,6 +74,25 @@ pub fn run_line(s: State, line: &[u8], log: &mut [u8]) -> Ran
         },
         Put::Full => without_room(s),
     }
+}
+
+// One line: its step made, and reported by a log line at the front of the lent memory.
+pub fn run_line(s: State, line: &[u8], log: &mut [u8]) -> Ran
+    ensures answer { λ r. ⌜ r ≡ ranLine s (now (line .entry)) (now (log .entry)) ⌝ }
+    ensures memory { λ r. ⌜ now (log .exit) ≡ memoryLine s (now (line .entry)) (now (log .entry)) ⌝ }
+{
+    let o = answer_line(s, line);
+    let a = o.answer;
+    let Answer::Accepted { number, value, run } = a else {
+        // refused: only logged, and the record is still the one handed in
+        let Answer::Refused { number, value, run } = a else {
+            // never reached: an answer is accepted or refused
+            return without_room(s);
+        };
+        return report(s, o, number, value, run, log);
+    };
+    // accepted: goes on
+    report(s, o, number, value, run, log)
 }
 
 // The script's first line: the log's first line, or `bad`, at the front of the lent memory.
