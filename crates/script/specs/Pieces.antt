@@ -42,7 +42,7 @@ onward u p =
     let t = pieceRun (u .session) (u .carry) bytes (p .memory) in
     record {
       session = movedTo t .session;
-      carry = t .carry;
+      carry = t .stand .carry;
       left = drop (movedTo t .next) bytes;
       log = u .log ++ take (movedTo t .written) (t .stand .memory);
     }

@@ -14,7 +14,7 @@ use borrow.Author.Tests.{eqb-true, eqb-false, leb-true, leb-false, lt-leb, ltb-t
 use Rattle.lists.specs.TestLaws.{which, by-test, none-some, some-same}
 use Rattle.arrive.specs.Arrive.{Arrival, Line, Unended, Held, arrivals, unendedAfter, finished, arrived, marked}
 use Rattle.arrive.specs.ArriveLaws.{arrivals-append, after-append, arrived-lines}
-use Rattle.arrive.specs.Feed.{unendedOf, lineCarry, fed, carryAfter, lastFound, arrivalsOf}
+use Rattle.arrive.specs.Feed.{unendedOf, lineCarry, carryAfter, lastFound, arrivalsOf}
 use Rattle.arrive.specs.FeedArrivalLaws.{of-none, feed-length, feed-arrivals, feed-after, last-arrival}
 use Rattle.text.specs.Cut.{pieces}
 use Rattle.text.specs.Fields.{fields}
@@ -29,8 +29,8 @@ use Rattle.syntax.specs.LogLine.{headerBytes, logBytes, badBytes}
 use Rattle.syntax.specs.SameLaws.{same-length}
 use Rattle.script.specs.LineRun.{awaiting, running, over, lineAnswered, lineFor, headLog, headStage}
 use Rattle.script.specs.WholeLog.{logFrom, logOf, wholeLog}
-use Rattle.script.specs.Session.{lineLog, lineState, lineStage, lineIn, foundTaken, foundMemory, turned, Stand, lineAt, turnAt, standAt, Through, through, pieceRun, lastArrivals, leftArrivals, endRun, endMemory, freshSession, standFor}
-use Rattle.script.specs.SessionLaws.{turn-next, one-left, end-stopped}
+use Rattle.script.specs.Session.{lineLog, lineState, lineStage, lineIn, foundTaken, turned, Stand, fedAt, carryAt, lineAt, turnAt, standAt, stopAt, through, pieceRun, lastArrivals, leftArrivals, endRun, endMemory, freshSession, standFor}
+use Rattle.script.specs.SessionLaws.{turn-next, stand-next, one-left, end-stopped}
 use Rattle.script.specs.RoomLaws.{found-stands, one-arrival, written, turn-fits, turn-state, turn-stage, turn-log}
 use Rattle.script.specs.ToCome.{arrivalsLog, arrivalsState, arrivalsStage, closing, allLog, toCome, comes}
 use Rattle.script.specs.Pieces.{Piece, Underway, starting, onward, underway, ended}
@@ -110,72 +110,73 @@ module _ (carry : List ℕ) (held : ℕ) where
   ]
 
 -- what is written within a piece, and what is then still to come
-unfoldable cameTo : ℕ → List ℕ → List (List ℕ) → Through → List ℕ
-cameTo most bytes later t = written (t .stand) ++ toCome most (t .stand .state) (t .stand .stage) (t .carry) (t .held) (drop (t .next) bytes) later
+unfoldable cameTo : ℕ → List ℕ → List (List ℕ) → Stand → List ℕ
+cameTo most bytes later x = written x ++ toCome most (x .session) (x .carry) (drop (x .next) bytes) later
+
+stand-size : (bytes : List ℕ) (x : Stand) → length ((standAt bytes x) .carry) ≡ length (x .carry)
+unfolding standAt
+stand-size bytes x = feed-length (x .carry) (x .session .held) bytes (x .next)
 
 module _ (bytes : List ℕ) (later : List (List ℕ)) where
   -- up to the next line's end and from there on
-  arrived-turn : (at : ℕ) (carry : List ℕ) (held : ℕ)
-      → arrived (length carry) (unendedOf carry held) (drop at bytes ∷ later)
-      ≡ arrivalsOf (carryAfter carry held bytes at) bytes (fed carry held bytes at .found)
-      ++ arrived (length carry) (unendedOf (carryAfter carry held bytes at) (fed carry held bytes at .held)) (drop (fed carry held bytes at .next) bytes ∷ later)
+  arrived-turn : (x : Stand)
+      → arrived (length (x .carry)) (unendedOf (x .carry) (x .session .held)) (drop (x .next) bytes ∷ later)
+      ≡ lineAt bytes x ++ arrived (length (x .carry)) (unendedOf (carryAt bytes x) (fedAt bytes x .held)) (drop (fedAt bytes x .next) bytes ∷ later)
   unfolding arrived
-  arrived-turn at carry held =
-      rw (feed-arrivals carry held bytes at, feed-after carry held bytes at)
-      (append-assoc (arrivalsOf (carryAfter carry held bytes at) bytes (fed carry held bytes at .found)) (arrivals (length carry) (unendedOf (carryAfter carry held bytes at) (fed carry held bytes at .held)) (drop (fed carry held bytes at .next) bytes)) _)
+  arrived-turn x =
+      rw (feed-arrivals (x .carry) (x .session .held) bytes (x .next), feed-after (x .carry) (x .session .held) bytes (x .next))
+      (append-assoc (lineAt bytes x) (arrivals (length (x .carry)) (unendedOf (carryAt bytes x) (fedAt bytes x .held)) (drop (fedAt bytes x .next) bytes)) _)
+
+  rest-is : (x : Stand)
+      → arrived (length (x .carry)) (unendedOf (carryAt bytes x) (fedAt bytes x .held)) (drop (fedAt bytes x .next) bytes ∷ later)
+      ≡ arrived (length (x .carry)) (unendedOf ((standAt bytes x) .carry) ((standAt bytes x) .session .held)) (drop ((standAt bytes x) .next) bytes ∷ later)
+  unfolding standAt turnAt turned
+  rest-is x = refl
 
   -- a turn moves a line from what is to come to what is written
-  module _ (at : ℕ) (x : Stand) (carry : List ℕ) (held : ℕ) (fits : x .written ≤ length (x .memory)) (n : (turnAt bytes at x carry held) .number ≡ 0) where
-    turn-came : cameTo (length carry) bytes later (record { stand = x; carry = carry; held = held; next = at; number = 0 })
-        ≡ cameTo (length carry) bytes later
-        (record {
-          stand = standAt bytes at x carry held;
-          carry = carryAfter carry held bytes at;
-          held = (turnAt bytes at x carry held) .held;
-          next = (turnAt bytes at x carry held) .next;
-          number = 0;
-        })
-    unfolding cameTo toCome turnAt turned
-    turn-came =
-        let es = lineAt bytes at carry held in
-        let rest = arrived (length carry) (unendedOf (carryAfter carry held bytes at) (fed carry held bytes at .held)) (drop (fed carry held bytes at .next) bytes ∷ later) in
-        let k = arrivalsState (x .state) (x .stage) es in
-        let stage = arrivalsStage (x .stage) es in
-        ap (λ l. written x ++ allLog (x .state) (x .stage) l) (arrived-turn at carry held)
-        ∙ ap (λ l. written x ++ l) (all-append es rest (x .state) (x .stage))
-        ∙ sym (append-assoc (written x) (arrivalsLog (x .state) (x .stage) es) (allLog k stage rest))
-        ∙ (λ i. sym (turn-log bytes at x carry held fits n) i ++ allLog (sym (turn-state bytes at x carry held fits n) i) (sym (turn-stage bytes at x carry held fits n) i) rest)
+  turn-came : (x : Stand) → x .written ≤ length (x .memory) → (turnAt bytes x) .number ≡ 0 → cameTo (length (x .carry)) bytes later x ≡ cameTo (length (x .carry)) bytes later (standAt bytes x)
+  unfolding cameTo toCome
+  turn-came x fits n =
+      let es = lineAt bytes x in
+      let rest = arrived (length (x .carry)) (unendedOf (carryAt bytes x) (fedAt bytes x .held)) (drop (fedAt bytes x .next) bytes ∷ later) in
+      let k = x .session .state in
+      let stage = x .session .stage in
+      ap (λ l. written x ++ allLog k stage l) (arrived-turn x)
+      ∙ ap (λ l. written x ++ l) (all-append es rest k stage)
+      ∙ sym (append-assoc (written x) (arrivalsLog k stage es) (allLog (arrivalsState k stage es) (arrivalsStage stage es) rest))
+      ∙ (λ i. sym (turn-log bytes x fits n) i ++ allLog (sym (turn-state bytes x fits n) i) (sym (turn-stage bytes x fits n) i) rest)
+      ∙ ap (λ r. written (standAt bytes x) ++ allLog ((standAt bytes x) .session .state) ((standAt bytes x) .session .stage) r) (rest-is x)
+
+  -- a stop leaves all as it was
+  stop-came : (x : Stand) → cameTo (length (x .carry)) bytes later x ≡ cameTo (length (x .carry)) bytes later (stopAt bytes x)
+  unfolding cameTo toCome
+  stop-came x =
+      ap (λ s. written x ++ allLog (x .session .state) (x .session .stage) (arrived (length (x .carry)) s (drop (x .next) bytes ∷ later)))
+      (sym (stays-held (x .carry) (x .session .held) bytes (x .next)))
 
   -- so from any place of a piece on, whether it stops or not
-  through-came : (fuel at : ℕ) (x : Stand) (carry : List ℕ) (held : ℕ) → length bytes ≤ at + fuel → x .written ≤ length (x .memory)
-      → cameTo (length carry) bytes later (record { stand = x; carry = carry; held = held; next = at; number = 0 }) ≡ cameTo (length carry) bytes later (through fuel bytes at x carry held)
-  unfolding through cameTo toCome
-  through-came zero at x carry held h fits = refl
-  through-came (suc fuel) at x carry held h fits = elim (which (ltb at (length bytes))) [
-    | inl e ↦ elim (which (eqb ((turnAt bytes at x carry held) .number) 0)) [
+  through-came : (fuel : ℕ) (x : Stand) → length bytes ≤ x .next + fuel → x .written ≤ length (x .memory)
+      → cameTo (length (x .carry)) bytes later x ≡ cameTo (length (x .carry)) bytes later ((through fuel bytes x) .stand)
+  unfolding through
+  through-came zero x h fits = refl
+  through-came (suc fuel) x h fits = elim (which (ltb (x .next) (length bytes))) [
+    | inl e ↦ elim (which (eqb ((turnAt bytes x) .number) 0)) [
       | inl n ↦
-          let z : (turnAt bytes at x carry held) .number ≡ 0 = eqb-true _ _ n in
-          let on = turn-next bytes at x carry held (ltb-true _ _ e) in
-          let rest = through-came fuel ((turnAt bytes at x carry held) .next) (standAt bytes at x carry held) (carryAfter carry held bytes at) ((turnAt bytes at x carry held) .held) (omega arith) (turn-fits bytes at x carry held fits) in
-          rw (e, n) (turn-came at x carry held fits z ∙ (rw (feed-length carry held bytes at) at rest))
-      | inr n ↦ rw (e, n) (stopped ((turnAt bytes at x carry held) .number))
+          let far : length bytes ≤ (standAt bytes x) .next + fuel = omega (arith, turn-next bytes x (ltb-true _ _ e), stand-next bytes x) in
+          let rest = through-came fuel (standAt bytes x) far (turn-fits bytes x fits) in
+          rw (e, n) (turn-came x fits (eqb-true _ _ n) ∙ (rw (stand-size bytes x) at rest))
+      | inr n ↦ rw (e, n) (stop-came x)
     ]
     | inr e ↦ rw e refl
   ]
-    where
-      stopped : (number : ℕ) → cameTo (length carry) bytes later (record { stand = x; carry = carry; held = held; next = at; number = 0 })
-          ≡ cameTo (length carry) bytes later (record { stand = x; carry = carryAfter carry held bytes at; held = held; next = at; number = number })
-      stopped number = ap (λ s. written x ++ allLog (x .state) (x .stage) (arrived (length carry) s (drop at bytes ∷ later))) (sym (stays-held carry held bytes at))
 
-through-size : (fuel : ℕ) (bytes : List ℕ) (at : ℕ) (x : Stand) (carry : List ℕ) (held : ℕ) → length ((through fuel bytes at x carry held) .carry) ≡ length carry
+through-size : (fuel : ℕ) (bytes : List ℕ) (x : Stand) → length ((through fuel bytes x) .stand .carry) ≡ length (x .carry)
 unfolding through
-through-size zero bytes at x carry held = refl
-through-size (suc fuel) bytes at x carry held = elim (which (ltb at (length bytes))) [
-  | inl e ↦ elim (which (eqb ((turnAt bytes at x carry held) .number) 0)) [
-    | inl n ↦
-        rw (e, n)
-        (through-size fuel bytes ((turnAt bytes at x carry held) .next) (standAt bytes at x carry held) (carryAfter carry held bytes at) ((turnAt bytes at x carry held) .held) ∙ feed-length carry held bytes at)
-    | inr n ↦ rw (e, n) (feed-length carry held bytes at)
+through-size zero bytes x = refl
+through-size (suc fuel) bytes x = elim (which (ltb (x .next) (length bytes))) [
+  | inl e ↦ elim (which (eqb ((turnAt bytes x) .number) 0)) [
+    | inl n ↦ rw (e, n) (through-size fuel bytes (standAt bytes x) ∙ stand-size bytes x)
+    | inr n ↦ rw (e, n) (feed-length (x .carry) (x .session .held) bytes (x .next))
   ]
   | inr e ↦ rw e
 ]
@@ -187,32 +188,17 @@ arrived-join s most a b later =
     rw (arrivals-append most s a b, after-append most s a b)
     (sym (append-assoc (arrivals most s a) (arrivals most (unendedAfter most s a) b) (arrived most (unendedAfter most (unendedAfter most s a) b) later)))
 
-joined : (u : Underway) (p : Piece) (later : List (List ℕ))
-    → comes u (p .bytes ∷ later)
-    ≡ cameTo (length (u .carry)) (u .left ++ p .bytes) later (record { stand = standFor (u .session) (p .memory); carry = u .carry; held = u .session .held; next = 0; number = 0 })
-unfolding comes toCome cameTo
-joined u p later = ap (allLog (u .session .state) (u .session .stage)) (arrived-join (unendedOf (u .carry) (u .session .held)) (length (u .carry)) (u .left) (p .bytes) later)
-
-after : (log : List ℕ) (t : Through) (bytes : List ℕ) (later : List (List ℕ))
-    → log ++ cameTo (length (t .carry)) bytes later t
-    ≡ log ++ written (t .stand) ++ toCome (length (t .carry)) (t .stand .state) (t .stand .stage) (t .carry) (t .held) (drop (t .next) bytes) later
-unfolding cameTo
-after log t bytes later = sym (append-assoc log (written (t .stand)) (toCome (length (t .carry)) (t .stand .state) (t .stand .stage) (t .carry) (t .held) (drop (t .next) bytes) later))
-
 call-came : (u : Underway) (p : Piece) (later : List (List ℕ)) → u .log ++ comes u (p .bytes ∷ later) ≡ (onward u p) .log ++ comes (onward u p) later
-unfolding onward pieceRun comes
+unfolding onward pieceRun comes toCome cameTo
 call-came u p later =
     let bytes = u .left ++ p .bytes in
-    let k = u .session .state in
-    let stage = u .session .stage in
-    let held = u .session .held in
-    let t = through (length bytes) bytes 0 (standFor (u .session) (p .memory)) (u .carry) held in
-    let first : comes u (p .bytes ∷ later) ≡ cameTo (length (u .carry)) bytes later t =
-    joined u p later ∙ through-came bytes later (length bytes) 0 (standFor (u .session) (p .memory)) (u .carry) held (omega arith) (omega arith) in
-    let size : length (t .carry) ≡ length (u .carry) = through-size (length bytes) bytes 0 (standFor (u .session) (p .memory)) (u .carry) held in
-    ap (λ l. u .log ++ l) first
-    ∙ ap (λ n. u .log ++ cameTo n bytes later t) (sym size)
-    ∙ after (u .log) t bytes later
+    let s = u .session in
+    let x = standFor s (u .carry) (p .memory) in
+    let t = (through (length bytes) bytes x) .stand in
+    ap (λ l. u .log ++ allLog (s .state) (s .stage) l) (arrived-join (unendedOf (u .carry) (s .held)) (length (u .carry)) (u .left) (p .bytes) later)
+    ∙ ap (λ l. u .log ++ l) (through-came bytes later (length bytes) x (omega arith) (omega arith))
+    ∙ ap (λ n. u .log ++ (written t ++ toCome n (t .session) (t .carry) (drop (t .next) bytes) later)) (sym (through-size (length bytes) bytes x))
+    ∙ sym (append-assoc (u .log) (written t) (toCome (length (t .carry)) (t .session) (t .carry) (drop (t .next) bytes) later))
 
 -- at every moment: the log so far, and what is still to come, are what was to come at first
 pub calls-came : (ps : List Piece) (u : Underway) (later : List (List ℕ)) → u .log ++ comes u (map (λ p. p .bytes) ps ++ later) ≡ (underway u ps) .log ++ comes (underway u ps) later

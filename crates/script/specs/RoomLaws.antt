@@ -11,7 +11,7 @@ use lib.Seq.{length-take-le, take-append-add}
 use borrow.Author.Tests.{le-leb, leb-true}
 use Rattle.lists.specs.TestLaws.{which, by-test}
 use Rattle.arrive.specs.Arrive.{Arrival}
-use Rattle.arrive.specs.Feed.{fed, carryAfter, arrivalsOf}
+use Rattle.arrive.specs.Feed.{arrivalsOf}
 use Rattle.arrive.specs.declared.Found.{Found}
 use Rattle.arrive.specs.declared.Found.the-variants as found
 use Rattle.text.specs.Place.{room}
@@ -22,7 +22,7 @@ use Rattle.syntax.specs.Form.{sameBytes}
 use Rattle.syntax.specs.LogLine.{headerBytes, logBytes, badBytes}
 use Rattle.script.specs.LineRun.{awaiting, running, headLog}
 use Rattle.script.specs.LineRunLaws.{line-room}
-use Rattle.script.specs.Session.{lineLog, lineState, lineStage, lineTaken, takenMemory, lineIn, foundTaken, foundMemory, turned, Stand, behind, lineAt, turnAt, standAt}
+use Rattle.script.specs.Session.{lineLog, lineState, lineStage, lineTaken, takenMemory, lineIn, foundTaken, foundMemory, turned, Stand, fedAt, carryAt, lineAt, behind, turnAt, standAt}
 use Rattle.script.specs.SessionLaws.{found-short}
 use Rattle.script.specs.Pieces.{lineRoom}
 use Rattle.script.specs.ToCome.{arrivalsLog, arrivalsState, arrivalsStage}
@@ -101,56 +101,56 @@ abbrev pub written : Stand → List ℕ
 written x = take (x .written) (x .memory)
 
 -- one turn, behind what is written
-module _ (bytes : List ℕ) (at : ℕ) (x : Stand) (carry : List ℕ) (held : ℕ) (fits : x .written ≤ length (x .memory)) where
-  pub turn-fits : (standAt bytes at x carry held) .written ≤ length ((standAt bytes at x carry held) .memory)
+module _ (bytes : List ℕ) (x : Stand) (fits : x .written ≤ length (x .memory)) where
+  pub turn-fits : (standAt bytes x) .written ≤ length ((standAt bytes x) .memory)
   unfolding standAt turnAt turned
   turn-fits =
       omega (
         arith,
-        found-short (x .state) (x .stage) (behind x) (lineAt bytes at carry held),
-        found-length (x .state) (x .stage) (behind x) (lineAt bytes at carry held),
-        length-append (take (x .written) (x .memory)) (foundMemory (x .state) (x .stage) (lineAt bytes at carry held) (behind x)),
+        found-short (x .session .state) (x .session .stage) (behind x) (lineAt bytes x),
+        found-length (x .session .state) (x .session .stage) (behind x) (lineAt bytes x),
+        length-append (take (x .written) (x .memory)) (foundMemory (x .session .state) (x .session .stage) (lineAt bytes x) (behind x)),
         length-take-le (x .written) (x .memory) fits,
       )
 
   -- the memory is as long as before, and a turn fills no more than `lineRoom` of it
-  pub turn-length : length ((standAt bytes at x carry held) .memory) ≡ length (x .memory)
+  pub turn-length : length ((standAt bytes x) .memory) ≡ length (x .memory)
   unfolding standAt turnAt turned
   turn-length =
       omega (
         arith,
-        found-length (x .state) (x .stage) (behind x) (lineAt bytes at carry held),
-        length-append (take (x .written) (x .memory)) (foundMemory (x .state) (x .stage) (lineAt bytes at carry held) (behind x)),
+        found-length (x .session .state) (x .session .stage) (behind x) (lineAt bytes x),
+        length-append (take (x .written) (x .memory)) (foundMemory (x .session .state) (x .session .stage) (lineAt bytes x) (behind x)),
         length-take-le (x .written) (x .memory) fits,
         length-drop (x .written) (x .memory),
       )
 
-  pub turn-few : (standAt bytes at x carry held) .written ≤ x .written + lineRoom
+  pub turn-few : (standAt bytes x) .written ≤ x .written + lineRoom
   unfolding standAt turnAt turned
-  turn-few = omega (arith, found-few (x .state) (x .stage) (behind x) (lineAt bytes at carry held))
+  turn-few = omega (arith, found-few (x .session .state) (x .session .stage) (behind x) (lineAt bytes x))
 
-  pub turn-room : x .written + lineRoom ≤ length (x .memory) → (turnAt bytes at x carry held) .number ≡ 0
+  pub turn-room : x .written + lineRoom ≤ length (x .memory) → (turnAt bytes x) .number ≡ 0
   unfolding turnAt turned
-  turn-room h = found-fits (x .state) (x .stage) (behind x) (lineAt bytes at carry held) (omega (arith, length-drop (x .written) (x .memory)))
+  turn-room h = found-fits (x .session .state) (x .session .stage) (behind x) (lineAt bytes x) (omega (arith, length-drop (x .written) (x .memory)))
 
-  module _ (n : (turnAt bytes at x carry held) .number ≡ 0) where
-    turn-stands : Stands (x .state) (x .stage) (behind x) (lineAt bytes at carry held)
+  module _ (n : (turnAt bytes x) .number ≡ 0) where
+    turn-stands : Stands (x .session .state) (x .session .stage) (behind x) (lineAt bytes x)
     unfolding turnAt turned
-    turn-stands = found-stands (x .state) (x .stage) (behind x) (lineAt bytes at carry held) (one-arrival (carryAfter carry held bytes at) bytes (fed carry held bytes at .found)) n
+    turn-stands = found-stands (x .session .state) (x .session .stage) (behind x) (lineAt bytes x) (one-arrival (carryAt bytes x) bytes (fedAt bytes x .found)) n
 
-    pub turn-state : (standAt bytes at x carry held) .state ≡ arrivalsState (x .state) (x .stage) (lineAt bytes at carry held)
+    pub turn-state : (standAt bytes x) .session .state ≡ arrivalsState (x .session .state) (x .session .stage) (lineAt bytes x)
     unfolding standAt turnAt turned
     turn-state = turn-stands .state
 
-    pub turn-stage : (standAt bytes at x carry held) .stage ≡ arrivalsStage (x .stage) (lineAt bytes at carry held)
+    pub turn-stage : (standAt bytes x) .session .stage ≡ arrivalsStage (x .session .stage) (lineAt bytes x)
     unfolding standAt turnAt turned
     turn-stage = turn-stands .stage-is
 
-    pub turn-log : written (standAt bytes at x carry held) ≡ written x ++ arrivalsLog (x .state) (x .stage) (lineAt bytes at carry held)
+    pub turn-log : written (standAt bytes x) ≡ written x ++ arrivalsLog (x .session .state) (x .session .stage) (lineAt bytes x)
     unfolding standAt turnAt turned
     turn-log =
-        let t = foundTaken (x .state) (x .stage) (lineAt bytes at carry held) (behind x) in
-        let m = foundMemory (x .state) (x .stage) (lineAt bytes at carry held) (behind x) in
+        let t = foundTaken (x .session .state) (x .session .stage) (lineAt bytes x) (behind x) in
+        let m = foundMemory (x .session .state) (x .session .stage) (lineAt bytes x) (behind x) in
         let size : x .written ≡ length (take (x .written) (x .memory)) = sym (length-take-le (x .written) (x .memory) fits) in
         ap (λ j. take (j + t .written) (take (x .written) (x .memory) ++ m)) size
         ∙ take-append-add (take (x .written) (x .memory)) m (t .written)

@@ -15,7 +15,6 @@ use Rattle.script.specs.LineRun.{awaiting, running, lineAnswered, lineFo
 use Rattle.script.specs.declared.session.Session.{Session}
 use Rattle.script.specs.declared.session.Moved.{Moved}
 use Rattle.script.specs.declared.session.Taken.{Taken}
-use Rattle.script.specs.declared.session.Turn.{Turn}
 
 -- a fresh record, the first line awaited, nothing held
 unfoldable pub freshSession : Session
@@ -60,70 +59,79 @@ unfoldable pub foundMemory : State → ℕ → List Arrival → List ℕ → Lis
 foundMemory k stage [] memory = memory
 foundMemory k stage (e ∷ es) memory = takenMemory k stage (lineIn e) memory
 
-abbrev pub turnWith : Fed → Taken → Turn
-turnWith f t = record { state = t .state; stage = t .stage; held = f .held; next = f .next; written = t .written; number = t .number }
+-- the bytes up to a line's end, and the line that ends there
+abbrev pub turnWith : Fed → Taken → Moved
+turnWith f t =
+    record { session = record { state = t .state; stage = t .stage; held = f .held }; next = f .next; written = t .written; number = t .number }
 
-unfoldable pub turned : State → ℕ → Fed → List ℕ → List ℕ → List ℕ → Turn
-turned k stage f carry bytes memory = turnWith f (foundTaken k stage (arrivalsOf carry bytes (f .found)) memory)
+unfoldable pub turned : Session → Fed → List ℕ → List ℕ → List ℕ → Moved
+turned s f carry bytes memory = turnWith f (foundTaken (s .state) (s .stage) (arrivalsOf carry bytes (f .found)) memory)
 
--- the record, where the script stands, the lent memory, and how many bytes of it are written
+-- where a piece stands: the session, the carry, the lent memory, the place in the piece behind what was taken, and how many bytes are written
 pub record Stand : Type 0 where
-  pub state : State
-  pub stage : ℕ
+  pub session : Session
+  pub carry : List ℕ
   pub memory : List ℕ
+  pub next : ℕ
   pub written : ℕ
+
+-- the bytes from there on up to the next line's end, cut: the answer, the carry then, and the line that ends there, or none
+abbrev pub fedAt : List ℕ → Stand → Fed
+fedAt bytes x = fed (x .carry) (x .session .held) bytes (x .next)
+
+abbrev pub carryAt : List ℕ → Stand → List ℕ
+carryAt bytes x = carryAfter (x .carry) (x .session .held) bytes (x .next)
+
+abbrev pub lineAt : List ℕ → Stand → List Arrival
+lineAt bytes x = arrivalsOf (carryAt bytes x) bytes (fedAt bytes x .found)
 
 -- the memory behind what is written
 abbrev pub behind : Stand → List ℕ
 behind x = drop (x .written) (x .memory)
 
--- the line that ends next from place `at` on, or none
-abbrev pub lineAt : List ℕ → ℕ → List ℕ → ℕ → List Arrival
-lineAt bytes at carry held = arrivalsOf (carryAfter carry held bytes at) bytes (fed carry held bytes at .found)
+-- that line taken: its answer, and where the piece stands then
+unfoldable pub turnAt : List ℕ → Stand → Moved
+turnAt bytes x = turned (x .session) (fedAt bytes x) (carryAt bytes x) bytes (behind x)
 
--- the bytes from `at` on up to the next line's end, and what stands after them
-unfoldable pub turnAt : List ℕ → ℕ → Stand → List ℕ → ℕ → Turn
-turnAt bytes at x carry held = turned (x .state) (x .stage) (fed carry held bytes at) (carryAfter carry held bytes at) bytes (behind x)
-
-unfoldable pub standAt : List ℕ → ℕ → Stand → List ℕ → ℕ → Stand
-standAt bytes at x carry held =
-    let t = turnAt bytes at x carry held in
+unfoldable pub standAt : List ℕ → Stand → Stand
+standAt bytes x =
+    let m = turnAt bytes x in
     record {
-      state = t .state;
-      stage = t .stage;
-      memory = take (x .written) (x .memory) ++ foundMemory (x .state) (x .stage) (lineAt bytes at carry held) (behind x);
-      written = x .written + t .written;
+      session = m .session;
+      carry = carryAt bytes x;
+      memory = take (x .written) (x .memory) ++ foundMemory (x .session .state) (x .session .stage) (lineAt bytes x) (behind x);
+      next = m .next;
+      written = x .written + m .written;
     }
 
--- a piece from place `at` on: what stands then, what the carry holds of a line that goes on, and where and why it stopped
+-- or without room: as before that line, but for what the carry was given of it, behind the bytes that it holds
+abbrev pub stopAt : List ℕ → Stand → Stand
+stopAt bytes x = record { session = x .session; carry = carryAt bytes x; memory = x .memory; next = x .next; written = x .written }
+
+-- how far a piece was taken, and 0, or 8 where it stopped
 pub record Through : Type 0 where
   pub stand : Stand
-  pub carry : List ℕ
-  pub held : ℕ
-  pub next : ℕ
   pub number : ℕ
 
--- line by line, at most as many as the fuel, up to the piece's end, or to a line whose log line has no room: there it stands as before that line
-unfoldable pub through : ℕ → List ℕ → ℕ → Stand → List ℕ → ℕ → Through
-through zero bytes at x carry held = record { stand = x; carry = carry; held = held; next = at; number = 0 }
-through (suc fuel) bytes at x carry held =
-    let t = turnAt bytes at x carry held in
-    let c = carryAfter carry held bytes at in
-    cond (ltb at (length bytes))
-    (cond (eqb (t .number) 0) (through fuel bytes (t .next) (standAt bytes at x carry held) c (t .held)) (record { stand = x; carry = c; held = held; next = at; number = t .number }))
-    (record { stand = x; carry = carry; held = held; next = at; number = 0 })
+-- line by line, at most as many as the fuel, up to the piece's end, or to a line whose log line has no room
+unfoldable pub through : ℕ → List ℕ → Stand → Through
+through zero bytes x = record { stand = x; number = 0 }
+through (suc fuel) bytes x =
+    let number = turnAt bytes x .number in
+    cond (ltb (x .next) (length bytes))
+    (cond (eqb number 0) (through fuel bytes (standAt bytes x)) (record { stand = stopAt bytes x; number = number }))
+    (record { stand = x; number = 0 })
 
 -- a session with nothing written yet
-abbrev pub standFor : Session → List ℕ → Stand
-standFor s memory = record { state = s .state; stage = s .stage; memory = memory; written = 0 }
+abbrev pub standFor : Session → List ℕ → List ℕ → Stand
+standFor s carry memory = record { session = s; carry = carry; memory = memory; next = 0; written = 0 }
 
 -- a whole piece, with lent memory for its log lines: it has at most as many lines' ends as bytes
 unfoldable pub pieceRun : Session → List ℕ → List ℕ → List ℕ → Through
-pieceRun s carry bytes memory = through (length bytes) bytes 0 (standFor s memory) carry (s .held)
+pieceRun s carry bytes memory = through (length bytes) bytes (standFor s carry memory)
 
 abbrev pub movedTo : Through → Moved
-movedTo t =
-    record { session = record { state = t .stand .state; stage = t .stand .stage; held = t .held }; next = t .next; written = t .stand .written; number = t .number }
+movedTo t = record { session = t .stand .session; next = t .stand .next; written = t .stand .written; number = t .number }
 
 -- nothing more arrives: a last line without LF counts; a script with no line at all has no first line, and is answered as with an empty one
 unfoldable pub lastArrivals : ℕ → List Arrival → List Arrival

@@ -12,7 +12,7 @@ use borrow.Author.Tests.{eq-eqb, ne-eqb, eqb-true, eqb-false, lt-ltb, le-ltb, le
 use Rattle.lists.specs.TestLaws.{which, clash, by-test}
 use Rattle.decimal.specs.Decimal.{decimal}
 use Rattle.arrive.specs.Arrive.{Arrival, Line}
-use Rattle.arrive.specs.Feed.{fed, carryAfter, foundLine, arrivalsOf, lastFound}
+use Rattle.arrive.specs.Feed.{foundLine, arrivalsOf, lastFound}
 use Rattle.arrive.specs.FeedArrivalLaws.{feed-on}
 use Rattle.arrive.specs.declared.Fed.{Fed}
 use Rattle.arrive.specs.declared.Found.{Found}
@@ -29,11 +29,10 @@ use Rattle.syntax.specs.Ascii.{ascii}
 use Rattle.syntax.specs.Form.{sameBytes, stepOn}
 use Rattle.syntax.specs.LogLine.{lineBytes, headerBytes, logBytes, badBytes}
 use Rattle.script.specs.LineRun.{awaiting, running, lineAnswered, lineFor, reported, ranLine, memoryLine, headLog, headed, memoryHead}
-use Rattle.script.specs.Session.{lineLog, lineState, lineStage, roomNumber, lineTaken, takenMemory, lineIn, foundTaken, foundMemory, turnWith, turned, Stand, behind, turnAt, standAt, Through, through, lastArrivals, leftArrivals, endRun, endMemory}
+use Rattle.script.specs.Session.{lineLog, lineState, lineStage, roomNumber, lineTaken, takenMemory, lineIn, foundTaken, foundMemory, turnWith, turned, Stand, carryAt, lineAt, behind, turnAt, standAt, stopAt, through, lastArrivals, leftArrivals, endRun, endMemory}
 use Rattle.script.specs.declared.session.Session.{Session}
 use Rattle.script.specs.declared.session.Moved.{Moved}
 use Rattle.script.specs.declared.session.Taken.{Taken}
-use Rattle.script.specs.declared.session.Turn.{Turn}
 
 -- no log line is empty
 line-some : (number value run : ℕ) → 0 < length (lineBytes number value run)
@@ -140,53 +139,52 @@ module _ (k : State) (stage : ℕ) (memory : List ℕ) where
       by-test {A = Taken} (λ r. r .written ≤ length memory) (room memory 0 log)
       (λ r. let h : 0 + length log ≤ length memory = leb-true _ _ r in omega arith) (λ r. omega arith)
 
--- a turn goes on behind `at`
-pub turn-next : (bytes : List ℕ) (at : ℕ) (x : Stand) (carry : List ℕ) (held : ℕ) → at < length bytes → at < (turnAt bytes at x carry held) .next
+-- a turn goes on
+pub turn-next : (bytes : List ℕ) (x : Stand) → x .next < length bytes → x .next < (turnAt bytes x) .next
 unfolding turnAt turned
-turn-next bytes at x carry held h = feed-on carry held bytes at h
+turn-next bytes x h = feed-on (x .carry) (x .session .held) bytes (x .next) h
+
+pub stand-next : (bytes : List ℕ) (x : Stand) → (standAt bytes x) .next ≡ (turnAt bytes x) .next
+unfolding standAt
+stand-next bytes x = refl
 
 -- more fuel than bytes are left changes nothing
-through-more : (fuel : ℕ) (bytes : List ℕ) (at : ℕ) (x : Stand) (carry : List ℕ) (held : ℕ) → length bytes ≤ at + fuel → through (suc fuel) bytes at x carry held ≡ through fuel bytes at x carry held
+through-more : (fuel : ℕ) (bytes : List ℕ) (x : Stand) → length bytes ≤ x .next + fuel → through (suc fuel) bytes x ≡ through fuel bytes x
 unfolding through
-through-more zero bytes at x carry held h = rw (le-ltb at (length bytes) (omega arith))
-through-more (suc fuel) bytes at x carry held h = elim (which (ltb at (length bytes))) [
-  | inl e ↦ elim (which (eqb ((turnAt bytes at x carry held) .number) 0)) [
-    | inl n ↦
-        let on = turn-next bytes at x carry held (ltb-true _ _ e) in
-        rw (e, n) (through-more fuel bytes ((turnAt bytes at x carry held) .next) (standAt bytes at x carry held) (carryAfter carry held bytes at) ((turnAt bytes at x carry held) .held) (omega arith))
+through-more zero bytes x h = rw (le-ltb (x .next) (length bytes) (omega arith))
+through-more (suc fuel) bytes x h = elim (which (ltb (x .next) (length bytes))) [
+  | inl e ↦ elim (which (eqb ((turnAt bytes x) .number) 0)) [
+    | inl n ↦ rw (e, n) (through-more fuel bytes (standAt bytes x) (omega (arith, turn-next bytes x (ltb-true _ _ e), stand-next bytes x)))
     | inr n ↦ rw (e, n)
   ]
   | inr e ↦ rw e
 ]
 
-module _ (bytes : List ℕ) (at : ℕ) (x : Stand) (carry : List ℕ) (held : ℕ) where
+module _ (bytes : List ℕ) (x : Stand) where
   -- one turn
-  through-turn : at < length bytes → (turnAt bytes at x carry held) .number ≡ 0
-      → through (length bytes) bytes at x carry held
-      ≡ through (length bytes) bytes ((turnAt bytes at x carry held) .next) (standAt bytes at x carry held) (carryAfter carry held bytes at) ((turnAt bytes at x carry held) .held)
+  through-turn : x .next < length bytes → (turnAt bytes x) .number ≡ 0 → through (length bytes) bytes x ≡ through (length bytes) bytes (standAt bytes x)
   unfolding through
-  through-turn h n = sym (through-more (length bytes) bytes at x carry held (omega arith)) ∙ rw (lt-ltb at (length bytes) h, eq-eqb _ _ n) refl
+  through-turn h n = sym (through-more (length bytes) bytes x (omega arith)) ∙ rw (lt-ltb (x .next) (length bytes) h, eq-eqb _ _ n) refl
 
   -- a line without room
-  through-stop : at < length bytes → ((turnAt bytes at x carry held) .number ≡ 0 → ⊥)
-      → through (length bytes) bytes at x carry held
-      ≡ record { stand = x; carry = carryAfter carry held bytes at; held = held; next = at; number = (turnAt bytes at x carry held) .number }
+  through-stop : x .next < length bytes → ((turnAt bytes x) .number ≡ 0 → ⊥) → through (length bytes) bytes x ≡ record { stand = stopAt bytes x; number = (turnAt bytes x) .number }
   unfolding through
-  through-stop h n = sym (through-more (length bytes) bytes at x carry held (omega arith)) ∙ rw (lt-ltb at (length bytes) h, ne-eqb _ _ n) refl
+  through-stop h n = sym (through-more (length bytes) bytes x (omega arith)) ∙ rw (lt-ltb (x .next) (length bytes) h, ne-eqb _ _ n) refl
 
   -- no byte is left
-  pub through-end : length bytes ≤ at → through (length bytes) bytes at x carry held ≡ record { stand = x; carry = carry; held = held; next = at; number = 0 }
+  pub through-end : length bytes ≤ x .next → through (length bytes) bytes x ≡ record { stand = x; number = 0 }
   unfolding through
-  through-end h = sym (through-more (length bytes) bytes at x carry held (omega arith)) ∙ rw (le-ltb at (length bytes) h) refl
+  through-end h = sym (through-more (length bytes) bytes x (omega arith)) ∙ rw (le-ltb (x .next) (length bytes) h) refl
 
 -- what was found, with equals in place of equals
-module _ (k : State) (stage : ℕ) (bytes memory : List ℕ) (f g : Fed) (c d : List ℕ) (e : f ≡ g) (u : c ≡ d) where
-  pub turn-same : (t : Taken) → t ≡ foundTaken k stage (arrivalsOf c bytes (f .found)) memory → turnWith f t ≡ turned k stage g d bytes memory
+module _ (s : Session) (bytes memory : List ℕ) (f g : Fed) (c d : List ℕ) (e : f ≡ g) (u : c ≡ d) where
+  pub turn-same : (t : Taken) → t ≡ foundTaken (s .state) (s .stage) (arrivalsOf c bytes (f .found)) memory → turnWith f t ≡ turned s g d bytes memory
   unfolding turned
-  turn-same t h = ap (turnWith f) h ∙ (λ i. turnWith (e i) (foundTaken k stage (arrivalsOf (u i) bytes (e i .found)) memory))
+  turn-same t h = ap (turnWith f) h ∙ (λ i. turnWith (e i) (foundTaken (s .state) (s .stage) (arrivalsOf (u i) bytes (e i .found)) memory))
 
-  pub memory-same : (m : List ℕ) → m ≡ foundMemory k stage (arrivalsOf c bytes (f .found)) memory → m ≡ foundMemory k stage (arrivalsOf d bytes (g .found)) memory
-  memory-same m h = h ∙ (λ i. foundMemory k stage (arrivalsOf (u i) bytes (e i .found)) memory)
+  pub memory-same : (m : List ℕ) → m ≡ foundMemory (s .state) (s .stage) (arrivalsOf c bytes (f .found)) memory
+      → m ≡ foundMemory (s .state) (s .stage) (arrivalsOf d bytes (g .found)) memory
+  memory-same m h = h ∙ (λ i. foundMemory (s .state) (s .stage) (arrivalsOf (u i) bytes (e i .found)) memory)
 
 -- the whole rest of a memory, lent as a part of it and put back
 pub rest-part : (l : List ℕ) (w : ℕ) → take (length l - w) (drop w l) ≡ drop w l
@@ -199,37 +197,33 @@ pub rest-back : (l : List ℕ) (w : ℕ) (m : List ℕ) → take w l ++ (m ++ dr
 rest-back l w m = rw (rest-none l w) (ap (λ z. take w l ++ z) (append-nil m))
 
 -- one turn of the loop: what stands then, and what is left to do, is what was to do before it
-module _ (bytes : List ℕ) (at : ℕ) (x : Stand) (carry : List ℕ) (held : ℕ) (more : at < length bytes) (t : Turn) (is : t ≡ turnAt bytes at x carry held) where
-  pub turn-on : at < t .next
-  turn-on = let e : t .next ≡ (turnAt bytes at x carry held) .next = ap (λ (u : Turn). u .next) is in omega (arith, e, turn-next bytes at x carry held more)
+module _ (bytes : List ℕ) (x : Stand) (more : x .next < length bytes) (t : Moved) (is : t ≡ turnAt bytes x) where
+  pub turn-on : x .next < t .next
+  turn-on = let e : t .next ≡ (turnAt bytes x) .next = ap (λ (u : Moved). u .next) is in omega (arith, e, turn-next bytes x more)
 
   pub turn-short : x .written ≤ length (x .memory) → x .written + t .written ≤ length (x .memory)
   unfolding turnAt turned
   turn-short h =
-      let es = arrivalsOf (carryAfter carry held bytes at) bytes (fed carry held bytes at .found) in
-      let e : t .written ≡ (foundTaken (x .state) (x .stage) es (behind x)) .written = ap (λ (u : Turn). u .written) is in
-      omega (arith, e, found-short (x .state) (x .stage) (behind x) es, length-drop (x .written) (x .memory))
+      let e : t .written ≡ (foundTaken (x .session .state) (x .session .stage) (lineAt bytes x) (behind x)) .written = ap (λ (u : Moved). u .written) is in
+      omega (arith, e, found-short (x .session .state) (x .session .stage) (behind x) (lineAt bytes x), length-drop (x .written) (x .memory))
 
-  module _ (c : List ℕ) (u : c ≡ carryAfter carry held bytes at) (m : List ℕ)
-      (v : m ≡ take (x .written) (x .memory) ++ foundMemory (x .state) (x .stage) (arrivalsOf (carryAfter carry held bytes at) bytes (fed carry held bytes at .found)) (behind x)) where
+  module _ (c : List ℕ) (u : c ≡ carryAt bytes x) (m : List ℕ) (v : m ≡ take (x .written) (x .memory) ++ foundMemory (x .session .state) (x .session .stage) (lineAt bytes x) (behind x)) where
     pub turn-again : t .number ≡ 0
-        → through (length bytes) bytes (t .next) (record { state = t .state; stage = t .stage; memory = m; written = x .written + t .written }) c (t .held)
-        ≡ through (length bytes) bytes at x carry held
+        → through (length bytes) bytes (record { session = t .session; carry = c; memory = m; next = t .next; written = x .written + t .written }) ≡ through (length bytes) bytes x
     unfolding standAt
     turn-again n =
-        (λ i. through (length bytes) bytes (is i .next) (record { state = is i .state; stage = is i .stage; memory = v i; written = x .written + is i .written }) (u i) (is i .held))
-        ∙ sym (through-turn bytes at x carry held more (sym (ap (λ (w : Turn). w .number) is) ∙ n))
+        (λ i. through (length bytes) bytes (record { session = is i .session; carry = u i; memory = v i; next = is i .next; written = x .written + is i .written }))
+        ∙ sym (through-turn bytes x more (sym (ap (λ (w : Moved). w .number) is) ∙ n))
 
     pub turn-stop : (t .number ≡ 0 → ⊥)
-        → (record { stand = record { state = x .state; stage = x .stage; memory = m; written = x .written }; carry = c; held = held; next = at; number = t .number })
-        ≡ through (length bytes) bytes at x carry held
+        → (record { stand = record { session = x .session; carry = c; memory = m; next = x .next; written = x .written }; number = t .number }) ≡ through (length bytes) bytes x
     unfolding turnAt turned
     turn-stop n =
-        let es = arrivalsOf (carryAfter carry held bytes at) bytes (fed carry held bytes at .found) in
-        let other : (turnAt bytes at x carry held) .number ≡ 0 → ⊥ = λ z. n (ap (λ (w : Turn). w .number) is ∙ z) in
-        let same : m ≡ x .memory = v ∙ ap (λ r. take (x .written) (x .memory) ++ r) (stop-memory (x .state) (x .stage) (behind x) es other) ∙ take-append-drop (x .written) (x .memory) in
-        (λ i. record { stand = record { state = x .state; stage = x .stage; memory = same i; written = x .written }; carry = u i; held = held; next = at; number = is i .number })
-        ∙ sym (through-stop bytes at x carry held more other)
+        let other : (turnAt bytes x) .number ≡ 0 → ⊥ = λ z. n (ap (λ (w : Moved). w .number) is ∙ z) in
+        let same : m ≡ x .memory =
+        v ∙ ap (λ r. take (x .written) (x .memory) ++ r) (stop-memory (x .session .state) (x .session .stage) (behind x) (lineAt bytes x) other) ∙ take-append-drop (x .written) (x .memory) in
+        (λ i. record { stand = record { session = x .session; carry = u i; memory = same i; next = x .next; written = x .written }; number = is i .number })
+        ∙ sym (through-stop bytes x more other)
 
 -- the end of a script: by what was left of it
 module _ (stage : ℕ) (carry : List ℕ) (held : ℕ) where

@@ -11,6 +11,7 @@ use Rattle.syntax.specs.LogLine.{badBytes}
 use Rattle.script.specs.LineRun.{awaiting}
 use Rattle.script.specs.Session.{lineLog, lineState, lineStage, lineIn}
 use Rattle.script.specs.Pieces.{Underway}
+use Rattle.script.specs.declared.session.Session.{Session}
 
 -- what a row of lines puts into the log, and the record and the stage after it
 unfoldable pub arrivalsLog : State → ℕ → List Arrival → List ℕ
@@ -34,9 +35,9 @@ unfoldable pub allLog : State → ℕ → List Arrival → List ℕ
 allLog k stage es = arrivalsLog k stage es ++ closing (arrivalsStage stage es)
 
 -- the log that is still to come, of a session and its carry: from the bytes `text`, those that arrive later, and the end
-unfoldable pub toCome : ℕ → State → ℕ → List ℕ → ℕ → List ℕ → List (List ℕ) → List ℕ
-toCome most k stage carry held text later = allLog k stage (arrived most (unendedOf carry held) (text ∷ later))
+unfoldable pub toCome : ℕ → Session → List ℕ → List ℕ → List (List ℕ) → List ℕ
+toCome most s carry text later = allLog (s .state) (s .stage) (arrived most (unendedOf carry (s .held)) (text ∷ later))
 
 -- what is still to come between two calls, if nothing but `later` arrives
 unfoldable pub comes : Underway → List (List ℕ) → List ℕ
-comes u later = toCome (length (u .carry)) (u .session .state) (u .session .stage) (u .carry) (u .session .held) (u .left) later
+comes u later = toCome (length (u .carry)) (u .session) (u .carry) (u .left) later

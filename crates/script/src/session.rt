@@ -32,16 +32,6 @@ struct Taken {
     number: u8,
 }
 
-// What the bytes up to a line's end came to: as for a line, and how many bytes the carry holds and where the next line begins.
-struct Turn {
-    state: State,
-    stage: u8,
-    held: usize,
-    next: usize,
-    written: usize,
-    number: u8,
-}
-
 // The log's 8 where nothing was written: no log line is empty.
 fn room_number(written: usize) -> u8
     ensures { λ r. ⌜ r ≡ roomNumber written ⌝ }
@@ -111,27 +101,23 @@ fn take_found<'a>(
 }
 
 // The bytes from `at` on up to the next line's end, and the line that ends there.
-fn next_line(
-    s: State,
-    stage: u8,
-    held: usize,
-    carry: &mut [u8],
-    bytes: &[u8],
-    at: usize,
-    log: &mut [u8],
-) -> Turn
-    ensures answer { λ r. ⌜ r ≡ turned s stage (fed (now (carry .entry)) held (now (bytes .entry)) at) (carryAfter (now (carry .entry)) held (now (bytes .entry)) at) (now (bytes .entry)) (now (log .entry)) ⌝ }
-    ensures carried { λ r. ⌜ now (carry .exit) ≡ carryAfter (now (carry .entry)) held (now (bytes .entry)) at ⌝ }
-    ensures memory { λ r. ⌜ now (log .exit) ≡ foundMemory s stage (arrivalsOf (carryAfter (now (carry .entry)) held (now (bytes .entry)) at) (now (bytes .entry)) (fed (now (carry .entry)) held (now (bytes .entry)) at .found)) (now (log .entry)) ⌝ }
+fn next_line(session: Session, carry: &mut [u8], bytes: &[u8], at: usize, log: &mut [u8]) -> Moved
+    ensures answer { λ r. ⌜ r ≡ turned session (fed (now (carry .entry)) (session .held) (now (bytes .entry)) at) (carryAfter (now (carry .entry)) (session .held) (now (bytes .entry)) at) (now (bytes .entry)) (now (log .entry)) ⌝ }
+    ensures carried { λ r. ⌜ now (carry .exit) ≡ carryAfter (now (carry .entry)) (session .held) (now (bytes .entry)) at ⌝ }
+    ensures memory { λ r. ⌜ now (log .exit) ≡ foundMemory (session .state) (session .stage) (arrivalsOf (carryAfter (now (carry .entry)) (session .held) (now (bytes .entry)) at) (now (bytes .entry)) (fed (now (carry .entry)) (session .held) (now (bytes .entry)) at .found)) (now (log .entry)) ⌝ }
 {
-    let f = arrive::feed(carry, held, bytes, at);
+    let f = arrive::feed(carry, session.held, bytes, at);
     let found = f.found;
-    let t = take_found(s, stage, carry, bytes, found, log);
+    let s = session.state;
+    let t = take_found(s, session.stage, carry, bytes, found, log);
     let next = t.state;
-    Turn {
+    let then = Session {
         state: next,
         stage: t.stage,
         held: f.held,
+    };
+    Moved {
+        session: then,
         next: f.next,
         written: t.written,
         number: t.number,
@@ -155,42 +141,28 @@ pub fn begin() -> Session
 // on with the bytes from `next` on, the same carry and more memory. 33 bytes are room for any line.
 pub fn arrive(session: Session, carry: &mut [u8], bytes: &[u8], log: &mut [u8]) -> Moved
     ensures answer { λ r. ⌜ r ≡ movedTo (pieceRun session (now (carry .entry)) (now (bytes .entry)) (now (log .entry))) ⌝ }
-    ensures carried { λ r. ⌜ now (carry .exit) ≡ pieceRun session (now (carry .entry)) (now (bytes .entry)) (now (log .entry)) .carry ⌝ }
+    ensures carried { λ r. ⌜ now (carry .exit) ≡ pieceRun session (now (carry .entry)) (now (bytes .entry)) (now (log .entry)) .stand .carry ⌝ }
     ensures memory { λ r. ⌜ now (log .exit) ≡ pieceRun session (now (carry .entry)) (now (bytes .entry)) (now (log .entry)) .stand .memory ⌝ }
 {
-    let mut s = session.state;
-    let mut stage = session.stage;
-    let mut held = session.held;
+    let mut so_far = session;
     let mut at = 0;
     let mut written = 0;
     while at < bytes.len() {
-        let t = next_line(s, stage, held, carry, bytes, at, &mut log[written..]);
-        if t.number != 0 {
-            let before = Session {
-                state: s,
-                stage: stage,
-                held: held,
-            };
+        let m = next_line(so_far, carry, bytes, at, &mut log[written..]);
+        if m.number != 0 {
             return Moved {
-                session: before,
+                session: so_far,
                 next: at,
                 written: written,
-                number: t.number,
+                number: m.number,
             };
         }
-        s = t.state;
-        stage = t.stage;
-        held = t.held;
-        at = t.next;
-        written = written + t.written;
+        so_far = m.session;
+        at = m.next;
+        written = written + m.written;
     }
-    let then = Session {
-        state: s,
-        stage: stage,
-        held: held,
-    };
     Moved {
-        session: then,
+        session: so_far,
         next: at,
         written: written,
         number: 0,

@@ -50,7 +50,7 @@ rest-length c =
     let at = c .before .before .before .before .before .loop .at in
     length-take-le (length bytes - at) (drop at bytes) (omega (arith, length-drop at bytes))
 
-next-is : (c : Called) → (let l = c .before .before .before .before .before .loop in c .arrive .result .next ≡ (pieceRun (l .s) (l .carry) (rest-in c) (l .log)) .next)
+next-is : (c : Called) → (let l = c .before .before .before .before .before .loop in c .arrive .result .next ≡ (pieceRun (l .s) (l .carry) (rest-in c) (l .log)) .stand .next)
 next-is c = ap (λ (m : Moved). m .next) (c .arrive .ensures .0)
 
 goes-on : (c : Called) → 0 < c .arrive .result .next
