@@ -8,5 +8,6 @@ pub mod LineRunLaws
 pub mod WholeLogLaws
 pub mod SessionLaws
 pub mod RoomLaws
+pub mod ToComeLaws
 pub mod PiecesLaws
 pub mod ProgressLaws

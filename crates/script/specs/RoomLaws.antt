@@ -1,7 +1,6 @@
 -- Laws of log lines in lent memory: a line that is taken stands there whole behind what was written, and how much room is enough for one.
 use mathlib.Core.Path.{_≡_, refl, ap, sym, _∙_}
 use mathlib.Core.List.{List, [], _∷_, _++_, append-nil}
-use mathlib.Core.Bool.{true, false, cond}
 use mathlib.Core.Logic.{inl, inr}
 use Prim.Native.Nat.{ℕ, _+_, _≤_}
 use native.Mathlib.Omega.{arith}
@@ -22,7 +21,7 @@ use Rattle.syntax.specs.Form.{sameBytes}
 use Rattle.syntax.specs.LogLine.{headerBytes, logBytes, badBytes}
 use Rattle.script.specs.LineRun.{awaiting, running, headLog}
 use Rattle.script.specs.LineRunLaws.{line-room}
-use Rattle.script.specs.Session.{lineLog, lineState, lineStage, lineTaken, takenMemory, lineIn, foundTaken, foundMemory, turned, Stand, fedAt, carryAt, lineAt, behind, turnAt, standAt}
+use Rattle.script.specs.Session.{lineLog, lineTaken, takenMemory, lineIn, foundTaken, foundMemory, turned, Stand, fedAt, carryAt, lineAt, behind, turnAt, standAt}
 use Rattle.script.specs.SessionLaws.{found-short}
 use Rattle.script.specs.Pieces.{lineRoom}
 use Rattle.script.specs.ToCome.{arrivalsLog, arrivalsState, arrivalsStage}

@@ -8,7 +8,7 @@ use native.Mathlib.Omega.{arith}
 use lib.Dec.{eqb, leb, ltb}
 use lib.ListN.{length, take, drop, take-append-drop, length-append, length-drop, drop-of-length-le}
 use lib.Seq.{take-all}
-use borrow.Author.Tests.{eq-eqb, ne-eqb, eqb-true, eqb-false, lt-ltb, le-ltb, le-leb, ltb-true, leb-true}
+use borrow.Author.Tests.{eq-eqb, ne-eqb, eqb-true, lt-ltb, le-ltb, le-leb, ltb-true, leb-true}
 use Rattle.lists.specs.TestLaws.{which, clash, by-test}
 use Rattle.decimal.specs.Decimal.{decimal}
 use Rattle.arrive.specs.Arrive.{Arrival, Line}
@@ -22,14 +22,13 @@ use Rattle.record.specs.declared.State.{State}
 use Rattle.text.specs.Fields.{tab}
 use Rattle.text.specs.Lines.{lf}
 use Rattle.text.specs.Place.{room, putBytes}
-use Rattle.text.specs.PlaceLaws.{put-kept, length-put}
 use Rattle.rules.specs.Log.{runField}
 use Rattle.walks.specs.Walk.{taskAt}
 use Rattle.syntax.specs.Ascii.{ascii}
 use Rattle.syntax.specs.Form.{sameBytes, stepOn}
 use Rattle.syntax.specs.LogLine.{lineBytes, headerBytes, logBytes, badBytes}
 use Rattle.script.specs.LineRun.{awaiting, running, lineAnswered, lineFor, reported, ranLine, memoryLine, headLog, headed, memoryHead}
-use Rattle.script.specs.Session.{lineLog, lineState, lineStage, roomNumber, lineTaken, takenMemory, lineIn, foundTaken, foundMemory, turnWith, turned, Stand, carryAt, lineAt, behind, turnAt, standAt, stopAt, through, lastArrivals, leftArrivals, endRun, endMemory}
+use Rattle.script.specs.Session.{lineLog, lineState, lineStage, roomNumber, lineTaken, takenMemory, lineIn, foundTaken, foundMemory, turnWith, turned, Stand, carryAt, lineAt, behind, turnAt, standAt, stopAt, through, lastArrivals, leftArrivals, endRun}
 use Rattle.script.specs.declared.session.Session.{Session}
 use Rattle.script.specs.declared.session.Moved.{Moved}
 use Rattle.script.specs.declared.session.Taken.{Taken}
