@@ -31,13 +31,14 @@ fn put(log: &[u8], n: usize) -> bool {
     is_written
 }
 
-// The script has ended. There is room for any log line.
+// The script has ended; there is room for any log line, so the end is answered at once.
 fn close(s: Session, carry: &[u8], log: &mut [u8]) {
     let m = session::end(s, carry, log);
     put(log, m.written);
 }
 
-// A piece of the script: as far as the log memory goes, its log written, and on from there. Each call goes on by a line at least.
+// A piece of the script: as far as the log memory goes, its log written, and on from there. Each call goes on by a line at least, or to the
+// end of the piece, since there is room for any log line.
 fn replay(before: Session, carry: &mut [u8], bytes: &[u8], log: &mut [u8]) -> Turn
     requires { ⌜ lineRoom ≤ length (now log) ⌝ }
 {
