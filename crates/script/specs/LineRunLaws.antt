@@ -8,6 +8,7 @@ use Prim.Native.Nat.{ℕ, _+_, _≤_, _<_}
 use native.Mathlib.Omega.{arith}
 use lib.Dec.{leb}
 use lib.ListN.{length, drop, length-append}
+use borrow.Author.Tests.{leb-false}
 use Rattle.lists.specs.TestLaws.{which, and-r}
 use Rattle.decimal.specs.Decimal.{decimal}
 use Rattle.decimal.specs.DecimalLaws.{decimal-length}
@@ -107,10 +108,11 @@ unfolding lineAnswered stays outFor answerFor malformed
 malformed-ruled k T e = ap (stays k 14 0) (stands-ruled k e) ∙ ap (λ z. stays z 14 0 (standing (view k))) (sym (sound-pack k e T))
 
 -- the lent memory behind a line that was run: the log line of its answer stands at the front and every byte behind it as it was, or, with the
--- log's 8 for want of room, every byte as it was
-pub data Logged (k : State) (memory : List ℕ) (r : Ran) (after : List ℕ) : Type 0 where
-  at-the-front : r .written ≡ length (lineFor (r .answer)) → after ≡ lineFor (r .answer) ++ drop (r .written) memory → Logged k memory r after
-  without-room : r .answer ≡ (stays k 8 0 (standingIn k)) .answer → after ≡ memory → Logged k memory r after
+-- log's 8 for want of room for the line that would report the answer, every byte as it was
+pub data Logged (k : State) (line memory : List ℕ) (r : Ran) (after : List ℕ) : Type 0 where
+  at-the-front : r .written ≡ length (lineFor (r .answer)) → after ≡ lineFor (r .answer) ++ drop (r .written) memory → Logged k line memory r after
+  without-room : length memory < length (lineFor ((lineAnswered k (stepOn line)) .answer)) → r .answer ≡ (stays k 8 0 (standingIn k)) .answer → after ≡ memory
+      → Logged k line memory r after
 
 refused-answered : (k : State) (o : Option Step) → Typed k → 1 < numberOf ((lineAnswered k o) .answer) → (lineAnswered k o) .state ≡ k
 unfolding lineAnswered stays
@@ -119,7 +121,7 @@ refused-answered k (some x) T h = refused-stays k (requestFor x) T h
 
 -- demand 1 as a script meets it: a number other than 0 and 1 leaves the record as it was, and of the lent memory all but the answer's log line
 pub refused-line : (k : State) (line memory : List ℕ) → Typed k → 1 < numberOf ((ranLine k line memory) .answer)
-    → ((ranLine k line memory) .state ≡ k) × Logged k memory (ranLine k line memory) (memoryLine k line memory)
+    → ((ranLine k line memory) .state ≡ k) × Logged k line memory (ranLine k line memory) (memoryLine k line memory)
 unfolding ranLine memoryLine reported putBytes stays
 refused-line k line memory T = go (which (room memory 0 log))
   where
@@ -129,10 +131,13 @@ refused-line k line memory T = go (which (room memory 0 log))
     log : List ℕ
     log = lineFor (o .answer)
 
+    short : room memory 0 log ≡ false → length memory < length log
+    short e = let h : length memory < 0 + length log = leb-false _ _ e in omega arith
+
     go : (room memory 0 log ≡ true) ⊎ (room memory 0 log ≡ false) → 1 < numberOf ((reported k o log memory) .answer)
-        → ((reported k o log memory) .state ≡ k) × Logged k memory (reported k o log memory) (putBytes memory 0 log)
+        → ((reported k o log memory) .state ≡ k) × Logged k line memory (reported k o log memory) (putBytes memory 0 log)
     go (inl e) = rw e (λ h. (refused-answered k (stepOn line) T h, at-the-front refl (ap (λ n. log ++ drop n memory) (from-front log))))
-    go (inr e) = rw e (λ h. (refl, without-room refl refl))
+    go (inr e) = rw e (λ h. (refl, without-room (short e) refl refl))
 
 -- by what became of the log line: it was written, or it had no room
 module _ (k : State) (o : Out) (log memory : List ℕ) where
