@@ -1,4 +1,7 @@
 // Replays a script: standard input to standard output. All that matters is in the library `script`.
+ghost use Prim.Native.Nat.{_≤_};
+ghost use lib.ListN.{length};
+ghost use Rattle.script.specs.Pieces.{lineRoom};
 use arrive::LONGEST;
 use libc::STDIN_FILENO;
 use libc::STDOUT_FILENO;
@@ -7,11 +10,11 @@ use script::session;
 use script::session::Session;
 use text::cut;
 
-// How many bytes of the script are read at a time. A line takes one byte at least and its log line at most
-// 33, so the log memory has room for the log of each piece; carry, piece and log together stay below 64 KiB.
-const PIECE: usize = 1536;
+// How many bytes of the script are read at a time, and how many of its log are written at a time. With carry and piece, and 4096 bytes for a
+// write that is taken in parts, that is below 64 KiB.
+const PIECE: usize = 16384;
 
-const ROOM: usize = 50688;
+const ROOM: usize = 16384;
 
 // The session then, and whether there is more to do.
 struct Turn {
@@ -28,30 +31,40 @@ fn put(log: &[u8], n: usize) -> bool {
     is_written
 }
 
-// The script has ended.
+// The script has ended; there is room for any log line, so the end is answered at once.
 fn close(s: Session, carry: &[u8], log: &mut [u8]) {
     let m = session::end(s, carry, log);
     put(log, m.written);
 }
 
-// A piece of the script, and its log written.
-fn replay(s: Session, carry: &mut [u8], bytes: &[u8], log: &mut [u8]) -> Turn {
-    let m = session::arrive(s, carry, bytes, log);
-    let next = m.session;
-    if put(log, m.written) {
-        return Turn {
-            session: next,
-            more: next.stage != OVER,
-        };
+// A piece of the script: as far as the log memory goes, its log written, and on from there. Each call goes on by a line at least, or to the
+// end of the piece, since there is room for any log line.
+fn replay(before: Session, carry: &mut [u8], bytes: &[u8], log: &mut [u8]) -> Turn
+    requires { ⌜ lineRoom ≤ length (now log) ⌝ }
+{
+    let mut s = before;
+    let mut at = 0;
+    while at < bytes.len() {
+        let m = session::arrive(s, carry, &bytes[at..], log);
+        s = m.session;
+        at = at + m.next;
+        if !put(log, m.written) {
+            return Turn {
+                session: s,
+                more: false,
+            };
+        }
     }
     Turn {
-        session: next,
-        more: false,
+        session: s,
+        more: s.stage != OVER,
     }
 }
 
 // Reads once, and writes the log of what came before it waits for more.
-fn one_turn(s: Session, carry: &mut [u8], piece: &mut [u8], log: &mut [u8]) -> Turn {
+fn one_turn(s: Session, carry: &mut [u8], piece: &mut [u8], log: &mut [u8]) -> Turn
+    requires { ⌜ lineRoom ≤ length (now log) ⌝ }
+{
     let got = libc::read(STDIN_FILENO, piece);
     if got > 0 {
         let n = io::count(got, piece);

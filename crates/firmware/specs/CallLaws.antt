@@ -1,11 +1,16 @@
--- Laws of a step by its code: every step has one, and no other code is a step's.
+-- Laws of a step by its code: every step has one, no other code is a step's, and a refusal leaves the record.
 use mathlib.Core.Path.{_≡_, refl}
-use Prim.Native.Nat.{ℕ, suc, _≤_}
+use Prim.Native.Nat.{ℕ, suc, _≤_, _<_}
 use native.Mathlib.Omega.{arith}
 use lib.ListN.{length, List·getD-eq-default}
+use Rattle.record.specs.StepRecord.{numberOf, stays}
+use Rattle.record.specs.GoodRecord.{Typed}
+use Rattle.record.specs.DemandRecordLaws.{refused-stays}
+use Rattle.record.specs.declared.State.{State}  -- keep
 use Rattle.record.specs.declared.Request.{Request}  -- keep
 use Rattle.record.specs.declared.Request.the-variants.{Task, Mutex, Sem, Start, Lock, Unlock, Pend, Post, Flush, Sleep, Yield, Hold, Free, Tick, Level, Outcome}  -- keep
-use Rattle.firmware.specs.Call.{byCode, requestOf}
+use Rattle.firmware.specs.Call.{byCode, requestOf, callOf}
+use Rattle.firmware.specs.declared.Asked.{Asked}  -- keep
 use Rattle.firmware.specs.declared.Asked.the-variants.{Step, Nothing}  -- keep
 
 -- a number that is no smaller and another is greater
@@ -38,3 +43,9 @@ each-has-code (Outcome i) = (15, i, 0, refl)
 pub beyond : (code a b : ℕ) → length (byCode a b) ≤ code → requestOf code a b ≡ Nothing
 unfolding requestOf
 beyond code a b h = List·getD-eq-default (byCode a b) Nothing h
+
+-- demand 1 as C meets it: "Every number but 0 and 1 leaves the state unchanged", whatever code, numbers and record are handed in
+pub refused-leaves : (k : State) (x : Asked) → Typed k → 1 < numberOf (callOf k x .answer) → callOf k x .state ≡ k
+unfolding callOf stays
+refused-leaves k (Step x) T h = refused-stays k x T h
+refused-leaves k Nothing T h = refl

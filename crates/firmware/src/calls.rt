@@ -44,6 +44,6 @@ pub fn call(s: State, x: Asked) -> Out
 {
     match x {
         Asked::Step { request } => kernel::step(s, request),
-        Asked::Nothing => kernel::stopped(s, 14),
+        Asked::Nothing => kernel::malformed(s),
     }
 }

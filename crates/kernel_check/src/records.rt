@@ -1,10 +1,10 @@
 // Are two records the same in every field?
-use record::MAX_TASKS;
 use record::MUTEXES;
 use record::Mutexes;
 use record::SEMAPHORES;
 use record::Semaphores;
 use record::State;
+use record::TASK_PLACES;
 use record::TASKS;
 use record::Tasks;
 use task_lists::TaskList;
@@ -37,7 +37,7 @@ fn same_words(a: [u32; TASKS], b: [u32; TASKS]) -> bool {
 }
 
 fn same_bytes(a: [u8; TASKS], b: [u8; TASKS]) -> bool {
-    walks::agree(a, b, MAX_TASKS)
+    walks::agree(a, b, TASK_PLACES)
 }
 
 fn same_list(a: TaskList, b: TaskList) -> bool {

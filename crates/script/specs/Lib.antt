@@ -3,8 +3,11 @@ pub mod LineRun
 pub mod WholeLog
 pub mod Session
 pub mod Pieces
+pub mod ToCome
 pub mod LineRunLaws
 pub mod WholeLogLaws
 pub mod SessionLaws
 pub mod RoomLaws
+pub mod ToComeLaws
 pub mod PiecesLaws
+pub mod ProgressLaws

@@ -29,14 +29,15 @@ lineFor a = lineBytes (numberOf a) (valueOf a) (runOf a)
 abbrev pub ranWith : Out → ℕ → Ran
 ranWith o written = record { state = o .state; answer = o .answer; written = written }
 
--- the record, the answer and the bytes written. "The log's 8 comes last: if the line that would report the answer, accepted or not, its LF
--- included, is longer than the lent memory, the answer is 8, value 0, and the step isn't made."
-unfoldable pub reported : State → Out → List ℕ → Ran
-reported k o memory =
-    cond (room memory 0 (lineFor (o .answer))) (ranWith o (length (lineFor (o .answer)))) (ranWith (stays k 8 0 (standingIn k)) 0)
+-- the record, the answer and the bytes written, by the line that reports the answer. "The log's 8 comes last: if the line that would report the
+-- answer, accepted or not, its LF included, is longer than the lent memory, the answer is 8, value 0, and the step isn't made."
+unfoldable pub reported : State → Out → List ℕ → List ℕ → Ran
+reported k o log memory = cond (room memory 0 log) (ranWith o (length log)) (ranWith (stays k 8 0 (standingIn k)) 0)
 
 unfoldable pub ranLine : State → List ℕ → List ℕ → Ran
-ranLine k line memory = reported k (lineAnswered k (stepOn line)) memory
+ranLine k line memory =
+    let o = lineAnswered k (stepOn line) in
+    reported k o (lineFor (o .answer)) memory
 
 -- "A log line is written at the front of the lent memory; bytes after it stay, and with the log's 8 all stay"
 unfoldable pub memoryLine : State → List ℕ → List ℕ → List ℕ

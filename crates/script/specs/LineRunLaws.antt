@@ -2,12 +2,13 @@
 use mathlib.Core.Path.{_≡_, refl, ap, sym, _∙_}
 use mathlib.Core.List.{List, [], _∷_, _++_}
 use mathlib.Core.Bool.{Bool, true, false, cond}
-use mathlib.Core.Logic.{inl, inr}
+use mathlib.Core.Logic.{_⊎_, inl, inr}
 use mathlib.Core.Option.{Option, none, some}
-use Prim.Native.Nat.{ℕ, _+_, _≤_}
+use Prim.Native.Nat.{ℕ, _+_, _≤_, _<_}
 use native.Mathlib.Omega.{arith}
 use lib.Dec.{leb}
 use lib.ListN.{length, drop, length-append}
+use borrow.Author.Tests.{leb-false}
 use Rattle.lists.specs.TestLaws.{which, and-r}
 use Rattle.decimal.specs.Decimal.{decimal}
 use Rattle.decimal.specs.DecimalLaws.{decimal-length}
@@ -24,10 +25,12 @@ use Rattle.record.specs.Record.{view}
 use Rattle.record.specs.SoundRecord.{soundOf}
 use Rattle.record.specs.GoodRecord.{Typed}
 use Rattle.record.specs.SoundPackLaws.{sound-pack}
-use Rattle.record.specs.StepRecord.{answerFor, outFor, stays, stepOf}
+use Rattle.record.specs.StepRecord.{numberOf, answerFor, outFor, stays, stepOf}
+use Rattle.record.specs.DemandRecordLaws.{refused-stays}
 use Rattle.record.specs.DemandRecord.{requestFor, readOut, standingIn, inMemory, callRecord}
 use Rattle.record.specs.declared.State.{State}
 use Rattle.record.specs.declared.Out.{Out}
+use Rattle.record.specs.declared.Answer.{Answer}
 use Rattle.record.specs.declared.Request.{Request}
 use Rattle.syntax.specs.Form.{sameBytes, stepOn}
 use Rattle.syntax.specs.LogLine.{lineBytes, headerBytes, logBytes, badBytes}
@@ -104,21 +107,63 @@ pub malformed-ruled : (k : State) → Typed k → soundOf k ≡ true → lineAns
 unfolding lineAnswered stays outFor answerFor malformed
 malformed-ruled k T e = ap (stays k 14 0) (stands-ruled k e) ∙ ap (λ z. stays z 14 0 (standing (view k))) (sym (sound-pack k e T))
 
+-- the lent memory behind a line that was run: the log line of its answer stands at the front and every byte behind it as it was, or, with the
+-- log's 8 for want of room for the line that would report the answer, every byte as it was
+pub data Logged (k : State) (line memory : List ℕ) (r : Ran) (after : List ℕ) : Type 0 where
+  at-the-front : r .written ≡ length (lineFor (r .answer)) → after ≡ lineFor (r .answer) ++ drop (r .written) memory → Logged k line memory r after
+  without-room : length memory < length (lineFor ((lineAnswered k (stepOn line)) .answer)) → r .answer ≡ (stays k 8 0 (standingIn k)) .answer → after ≡ memory
+      → Logged k line memory r after
+
+refused-answered : (k : State) (o : Option Step) → Typed k → 1 < numberOf ((lineAnswered k o) .answer) → (lineAnswered k o) .state ≡ k
+unfolding lineAnswered stays
+refused-answered k none T h = refl
+refused-answered k (some x) T h = refused-stays k (requestFor x) T h
+
+-- demand 1 as a script meets it: a number other than 0 and 1 leaves the record as it was, and of the lent memory all but the answer's log line
+pub refused-line : (k : State) (line memory : List ℕ) → Typed k → 1 < numberOf ((ranLine k line memory) .answer)
+    → ((ranLine k line memory) .state ≡ k) × Logged k line memory (ranLine k line memory) (memoryLine k line memory)
+unfolding ranLine memoryLine reported putBytes stays
+refused-line k line memory T = go (which (room memory 0 log))
+  where
+    o : Out
+    o = lineAnswered k (stepOn line)
+
+    log : List ℕ
+    log = lineFor (o .answer)
+
+    short : room memory 0 log ≡ false → length memory < length log
+    short e = let h : length memory < 0 + length log = leb-false _ _ e in omega arith
+
+    go : (room memory 0 log ≡ true) ⊎ (room memory 0 log ≡ false) → 1 < numberOf ((reported k o log memory) .answer)
+        → ((reported k o log memory) .state ≡ k) × Logged k line memory (reported k o log memory) (putBytes memory 0 log)
+    go (inl e) = rw e (λ h. (refused-answered k (stepOn line) T h, at-the-front refl (ap (λ n. log ++ drop n memory) (from-front log))))
+    go (inr e) = rw e (λ h. (refl, without-room (short e) refl refl))
+
 -- by what became of the log line: it was written, or it had no room
-module _ (k : State) (o : Out) (memory : List ℕ) where
-  pub reported-next : (n : ℕ) → putAnswer memory 0 (lineFor (o .answer)) ≡ Next n → reported k o memory ≡ ranWith o n
+module _ (k : State) (o : Out) (log memory : List ℕ) where
+  pub reported-next : (n : ℕ) → putAnswer memory 0 log ≡ Next n → ranWith o n ≡ reported k o log memory
   unfolding putAnswer reported
-  reported-next n e = elim (which (room memory 0 (lineFor (o .answer)))) [
-    | inl r ↦ let z : Next (0 + length (lineFor (o .answer))) ≡ Next n = rw r at e in rw r (ap (ranWith o) (let y : 0 + length (lineFor (o .answer)) ≡ n = cc in omega (arith, y)))
+  reported-next n e = elim (which (room memory 0 log)) [
+    | inl r ↦ let z : Next (0 + length log) ≡ Next n = rw r at e in rw r (ap (ranWith o) (let y : 0 + length log ≡ n = cc in omega (arith, y)))
     | inr r ↦ let z : Full ≡ Next n = rw r at e in absurd (let y : _≡_ {A = ℕ} 0 1 = cc in omega arith)
   ]
 
-  pub reported-full : putAnswer memory 0 (lineFor (o .answer)) ≡ Full → reported k o memory ≡ ranWith (stays k 8 0 (standingIn k)) 0
+  pub reported-full : putAnswer memory 0 log ≡ Full → ranWith (stays k 8 0 (standingIn k)) 0 ≡ reported k o log memory
   unfolding putAnswer reported
-  reported-full e = elim (which (room memory 0 (lineFor (o .answer)))) [
-    | inl r ↦ let z : Next (0 + length (lineFor (o .answer))) ≡ Full = rw r at e in absurd (let y : _≡_ {A = ℕ} 0 1 = cc in omega arith)
+  reported-full e = elim (which (room memory 0 log)) [
+    | inl r ↦ let z : Next (0 + length log) ≡ Full = rw r at e in absurd (let y : _≡_ {A = ℕ} 0 1 = cc in omega arith)
     | inr r ↦ rw r
   ]
+
+-- a line by the case of its answer: a is the answer, with its own number, value and task
+module _ (k : State) (line memory : List ℕ) (o : Out) (is : o ≡ lineAnswered k (stepOn line)) (a : Answer) (e : o .answer ≡ a) where
+  pub answer-reported : reported k o (lineFor a) memory ≡ ranLine k line memory
+  unfolding ranLine
+  answer-reported = ap (λ b. reported k o (lineFor b) memory) (sym e) ∙ ap (λ p. reported k p (lineFor (p .answer)) memory) is
+
+  pub answer-memory : putBytes memory 0 (lineFor a) ≡ memoryLine k line memory
+  unfolding memoryLine
+  answer-memory = ap (λ b. putBytes memory 0 (lineFor b)) (sym e) ∙ ap (λ p. putBytes memory 0 (lineFor (p .answer))) is
 
 pub head-good : (line : List ℕ) → sameBytes line headerBytes ≡ true → (headLog line ≡ logBytes) × (headStage line ≡ running)
 unfolding headLog headStage

@@ -1,11 +1,14 @@
--- A whole script that arrives in pieces, each with lent memory of its own: the log that is handed out, piece by piece.
+-- A whole script that arrives in pieces, each with lent memory of its own: the log that is handed out, call by call.
 use Prim.Native.Nat.{ℕ, _*_, _≤_}
 use mathlib.Core.List.{List, [], _∷_, _++_}
-use lib.ListN.{length, take}
-use Rattle.script.specs.Session.{Stand, movedTo, pieceRun, endRun}
+use mathlib.Core.Bool.{cond}
+use mathlib.Core.Option.{Option, none, some}
+use lib.Dec.{eqb}
+use lib.ListN.{length, take, drop}
+use Rattle.script.specs.Session.{freshSession, movedTo, pieceRun, endRun, endMemory}
 use Rattle.script.specs.declared.session.Session.{Session}
 
--- bytes that arrive, and the memory that is lent for their log lines, whatever it holds
+-- bytes that newly arrive, and the memory that is lent for log lines, whatever it holds
 pub record Piece : Type 0 where
   pub bytes : List ℕ
   pub memory : List ℕ
@@ -22,13 +25,37 @@ pub data AllRoomy : List Piece → Type 0 where
   none-roomy : AllRoomy []
   more-roomy : {p : Piece} {ps : List Piece} → Roomy p → AllRoomy ps → AllRoomy (p ∷ ps)
 
--- what was written: so many of the memory's first bytes
-abbrev pub written : Stand → List ℕ
-written x = take (x .written) (x .memory)
+-- a script between two calls: the session, the carry, the bytes that a stop left over, and the log so far
+pub record Underway : Type 0 where
+  pub session : Session
+  pub carry : List ℕ
+  pub left : List ℕ
+  pub log : List ℕ
 
--- the log of the pieces one after another, and of the end, for which `last` is lent
-unfoldable pub piecesLog : Session → List ℕ → List Piece → List ℕ → List ℕ
-piecesLog s carry [] last = written (endRun s carry last)
-piecesLog s carry (p ∷ ps) last =
-    let t = pieceRun s carry (p .bytes) (p .memory) in
-    written (t .stand) ++ piecesLog (movedTo t .session) (t .carry) ps last
+abbrev pub starting : List ℕ → Underway
+starting carry = record { session = freshSession; carry = carry; left = []; log = [] }
+
+-- one call, which is handed what a stop left over and then what newly arrived: a session that stopped goes on from where it stopped
+unfoldable pub onward : Underway → Piece → Underway
+onward u p =
+    let bytes = u .left ++ p .bytes in
+    let t = pieceRun (u .session) (u .carry) bytes (p .memory) in
+    record {
+      session = movedTo t .session;
+      carry = t .stand .carry;
+      left = drop (movedTo t .next) bytes;
+      log = u .log ++ take (movedTo t .written) (t .stand .memory);
+    }
+
+-- one call after another
+unfoldable pub underway : Underway → List Piece → Underway
+underway u [] = u
+underway u (p ∷ ps) = underway (onward u p) ps
+
+-- the end, asked for with one lent memory after another: the log then, once it is answered 0
+unfoldable pub ended : Underway → List (List ℕ) → Option (List ℕ)
+ended u [] = none
+ended u (memory ∷ more) =
+    let m = endRun (u .session) (u .carry) memory in
+    let log = u .log ++ take (m .written) (endMemory (u .session) (u .carry) memory) in
+    cond (eqb (m .number) 0) (some log) (ended (record { session = m .session; carry = u .carry; left = u .left; log = log }) more)

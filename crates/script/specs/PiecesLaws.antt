@@ -1,210 +1,214 @@
--- The log of a script is its whole log, in whatever pieces its bytes arrive, if each piece has room for its log lines.
+-- The log of a script is its whole log, in whatever pieces its bytes arrive and however much memory is lent: at every moment the log so far, and
+-- what is still to come of the bytes that are left over and those that arrive later, are the whole log.
 use mathlib.Core.Path.{_≡_, refl, ap, sym, _∙_}
 use mathlib.Core.List.{List, [], _∷_, _++_, append-nil, append-assoc, map, flatten}
-use mathlib.Core.Bool.{Bool, true, false, cond}
 use mathlib.Core.Logic.{inl, inr}
-use mathlib.Core.Option.{none}
-use Prim.Native.Nat.{ℕ, _+_, _*_, _≤_, _<_}
+use mathlib.Core.Option.{some}
+use Prim.Native.Nat.{ℕ, zero, suc, _+_, _≤_}
 use native.Mathlib.Omega.{arith}
-use lib.Dec.{eqb, leb}
-use lib.ListN.{length}
-use borrow.Author.Tests.{eqb-true, leb-false, lt-leb}
-use Rattle.lists.specs.TestLaws.{which, by-test}
-use Rattle.arrive.specs.Arrive.{Arrival, Line, Unended, Held, grown, arrivals, marked}
-use Rattle.arrive.specs.Calls.{pieceCalls, allHanded}
-use Rattle.arrive.specs.CallsLaws.{calls-right, handed-lines}
-use Rattle.text.specs.Cut.{pieces}
-use Rattle.text.specs.Fields.{fields}
-use Rattle.arrive.specs.Feed.{lastFound, arrivalsOf, unendedOf}
-use Rattle.text.specs.Lines.{lf, lines}
+use lib.Dec.{eqb, ltb}
+use lib.ListN.{length, take, drop, length-append}
+use lib.Seq.{length-take-le, take-append-le, take-at}
+use borrow.Author.Tests.{eqb-true, eqb-false, leb-true, leb-false, ltb-true}
+use Rattle.lists.specs.TestLaws.{which, none-some, some-same}
+use Rattle.arrive.specs.Arrive.{Unended, arrivals, unendedAfter, finished, arrived}
+use Rattle.arrive.specs.ArriveLaws.{arrivals-append, after-append, arrived-lines}
+use Rattle.arrive.specs.Feed.{unendedOf, lineCarry, carryAfter, lastFound, arrivalsOf}
+use Rattle.arrive.specs.FeedArrivalLaws.{of-none, feed-length, feed-arrivals, feed-after, last-arrival}
+use Rattle.text.specs.Lines.{lines, lineFrom, lineEnd}
+use Rattle.text.specs.Place.{room, putBytes}
+use Rattle.text.specs.PlaceLaws.{put-laid, put-kept, length-put}
 use Rattle.record.specs.DemandRecord.{freshRecord}
-use Rattle.record.specs.declared.State.{State}
-use Rattle.syntax.specs.Ascii.{ascii}
-use Rattle.syntax.specs.Form.{longest, words, sameBytes, madeBy, numbersOf, madeFrom, stepIn, stepOn}
-use Rattle.syntax.specs.LogLine.{headerBytes, logBytes, badBytes}
-use Rattle.script.specs.LineRun.{awaiting, running, over, lineAnswered, lineFor, headLog, headStage}
-use Rattle.script.specs.WholeLog.{logFrom, logOf, wholeLog}
-use Rattle.script.specs.Session.{lineIn, takeAll, through, pieceRun, lastArrivals, leftArrivals, endRun, freshSession, standFor, movedTo}
-use Rattle.script.specs.Pieces.{Piece, lineRoom, AllRoomy, more-roomy, written, piecesLog}
-use Rattle.arrive.specs.declared.Found.{Found}
-use Rattle.arrive.specs.declared.Found.the-variants as found
-use Rattle.script.specs.SessionLaws.{one-left}
-use Rattle.script.specs.RoomLaws.{lineLog, lineState, lineStage, arrivalsLog, arrivalsState, arrivalsStage, arrivals-stand, written-after, arrivals-room}
-use Rattle.syntax.specs.SameLaws.{same-length}
+use Rattle.syntax.specs.Form.{longest}
+use Rattle.script.specs.LineRun.{awaiting}
+use Rattle.script.specs.WholeLog.{wholeLog}
+use Rattle.script.specs.Session.{foundTaken, turned, Stand, fedAt, carryAt, lineAt, turnAt, standAt, stopAt, through, pieceRun, lastArrivals, leftArrivals, endRun, endMemory, freshSession, standFor}
+use Rattle.script.specs.SessionLaws.{turn-next, stand-next, one-left, end-stopped}
+use Rattle.script.specs.RoomLaws.{found-stands, one-arrival, written, turn-fits, turn-state, turn-stage, turn-log}
+use Rattle.script.specs.ToComeLaws.{all-append, end-log, all-log}
+use Rattle.script.specs.ToCome.{arrivalsLog, arrivalsState, arrivalsStage, allLog, toCome, comes}
+use Rattle.script.specs.Pieces.{Piece, Underway, starting, onward, underway, ended}
 use Rattle.script.specs.declared.session.Session.{Session}
 
--- a piece has at most as many lines' ends as bytes
-few-arrivals : (most : ℕ) (s : Unended) (text : List ℕ) → length (arrivals most s text) ≤ length text
-unfolding arrivals
-few-arrivals most s [] = omega arith
-few-arrivals most s (c ∷ cs) = elim (which (eqb c lf)) [
-  | inl e ↦ rw e (omega (arith, few-arrivals most (Held []) cs))
-  | inr e ↦ rw e (omega (arith, few-arrivals most (grown most s c) cs))
-]
-
-few-handed : (carry : List ℕ) (held : ℕ) (bytes : List ℕ) → length (pieceCalls carry held bytes .handed) ≤ length bytes
-few-handed carry held bytes =
-    let r = calls-right (length bytes) carry held bytes 0 (omega arith) in
-    rw (r .handed) (few-arrivals (length carry) (unendedOf carry held) bytes)
-
--- in two rows
-log-append : (a b : List Arrival) (k : State) (stage : ℕ) → arrivalsLog k stage (a ++ b) ≡ arrivalsLog k stage a ++ arrivalsLog (arrivalsState k stage a) (arrivalsStage stage a) b
-unfolding arrivalsLog arrivalsState arrivalsStage
-log-append [] b k stage = refl
-log-append (e ∷ a) b k stage =
-    rw (log-append a b (lineState k stage (lineIn e)) (lineStage stage (lineIn e)))
-    (sym (append-assoc (lineLog k stage (lineIn e)) (arrivalsLog (lineState k stage (lineIn e)) (lineStage stage (lineIn e)) a) _))
-
-stage-append : (a b : List Arrival) (stage : ℕ) → arrivalsStage stage (a ++ b) ≡ arrivalsStage (arrivalsStage stage a) b
-unfolding arrivalsStage
-stage-append [] b stage = refl
-stage-append (e ∷ a) b stage = stage-append a b (lineStage stage (lineIn e))
-
--- what is left to say at the end: `bad` where not even a first line came
-unfoldable closing : ℕ → List ℕ
-closing stage = cond (eqb stage awaiting) badBytes []
-
--- the log that a row of lines comes to, the end included
-unfoldable allLog : State → ℕ → List Arrival → List ℕ
-allLog k stage es = arrivalsLog k stage es ++ closing (arrivalsStage stage es)
-
--- after a line, a first line is awaited no more
-line-moves : (stage : ℕ) (line : List ℕ) → closing (lineStage stage line) ≡ []
-unfolding lineStage headStage closing
-line-moves stage line = elim (which (eqb stage running)) [
-  | inl e ↦ let z : stage ≡ running = eqb-true _ _ e in rw (e, z)
-  | inr e ↦ elim (which (eqb stage awaiting)) [
-    | inl f ↦ rw (e, f) (by-test (λ n. cond (eqb n awaiting) badBytes [] ≡ []) (sameBytes line headerBytes) (λ g. refl) (λ g. refl))
-    | inr f ↦ rw (e, f, f)
+-- a call leaves the first bytes of the carry, which it holds of a line, as they were
+module _ (carry : List ℕ) (held : ℕ) where
+  put-behind : (part : List ℕ) → unendedOf (putBytes carry held part) held ≡ unendedOf carry held
+  unfolding unendedOf
+  put-behind part = elim (which (room carry held part)) [
+    | inl r ↦
+        let h : held + length part ≤ length carry = leb-true _ _ r in
+        let n : length (take held carry) ≡ held = length-take-le held carry (omega arith) in
+        let front : take held (putBytes carry held part) ≡ take held carry =
+        ap (take held) (put-laid carry held part h)
+        ∙ take-append-le held (take held carry ++ part) (drop (held + length part) carry) (omega (arith, n, length-append (take held carry) part))
+        ∙ take-at (take held carry) part held n in
+        rw (length-put carry held part, front)
+    | inr r ↦ rw (put-kept carry held part (leb-false _ _ r))
   ]
+
+  stays-held : (bytes : List ℕ) (at : ℕ) → unendedOf (carryAfter carry held bytes at) held ≡ unendedOf carry held
+  unfolding carryAfter lineCarry
+  stays-held bytes at = elim (which (ltb (lineEnd bytes at) (length bytes))) [
+    | inl e ↦ rw e (elim (which (eqb held 0)) [ inl f ↦ rw f | inr f ↦ rw f (put-behind (lineFrom bytes at)) ])
+    | inr e ↦ rw e (put-behind (lineFrom bytes at))
+  ]
+
+-- what is written within a piece, and what is then still to come
+unfoldable cameTo : ℕ → List ℕ → List (List ℕ) → Stand → List ℕ
+cameTo most bytes later x = written x ++ toCome most (x .session) (x .carry) (drop (x .next) bytes) later
+
+stand-size : (bytes : List ℕ) (x : Stand) → length ((standAt bytes x) .carry) ≡ length (x .carry)
+unfolding standAt
+stand-size bytes x = feed-length (x .carry) (x .session .held) bytes (x .next)
+
+module _ (bytes : List ℕ) (later : List (List ℕ)) where
+  -- up to the next line's end and from there on
+  arrived-turn : (x : Stand)
+      → arrived (length (x .carry)) (unendedOf (x .carry) (x .session .held)) (drop (x .next) bytes ∷ later)
+      ≡ lineAt bytes x ++ arrived (length (x .carry)) (unendedOf (carryAt bytes x) (fedAt bytes x .held)) (drop (fedAt bytes x .next) bytes ∷ later)
+  unfolding arrived
+  arrived-turn x =
+      rw (feed-arrivals (x .carry) (x .session .held) bytes (x .next), feed-after (x .carry) (x .session .held) bytes (x .next))
+      (append-assoc (lineAt bytes x) (arrivals (length (x .carry)) (unendedOf (carryAt bytes x) (fedAt bytes x .held)) (drop (fedAt bytes x .next) bytes)) _)
+
+  rest-is : (x : Stand)
+      → arrived (length (x .carry)) (unendedOf (carryAt bytes x) (fedAt bytes x .held)) (drop (fedAt bytes x .next) bytes ∷ later)
+      ≡ arrived (length (x .carry)) (unendedOf ((standAt bytes x) .carry) ((standAt bytes x) .session .held)) (drop ((standAt bytes x) .next) bytes ∷ later)
+  unfolding standAt turnAt turned
+  rest-is x = refl
+
+  -- a turn moves a line from what is to come to what is written
+  turn-came : (x : Stand) → x .written ≤ length (x .memory) → (turnAt bytes x) .number ≡ 0 → cameTo (length (x .carry)) bytes later x ≡ cameTo (length (x .carry)) bytes later (standAt bytes x)
+  unfolding cameTo toCome
+  turn-came x fits n =
+      let es = lineAt bytes x in
+      let rest = arrived (length (x .carry)) (unendedOf (carryAt bytes x) (fedAt bytes x .held)) (drop (fedAt bytes x .next) bytes ∷ later) in
+      let k = x .session .state in
+      let stage = x .session .stage in
+      ap (λ l. written x ++ allLog k stage l) (arrived-turn x)
+      ∙ ap (λ l. written x ++ l) (all-append es rest k stage)
+      ∙ sym (append-assoc (written x) (arrivalsLog k stage es) (allLog (arrivalsState k stage es) (arrivalsStage stage es) rest))
+      ∙ (λ i. sym (turn-log bytes x fits n) i ++ allLog (sym (turn-state bytes x fits n) i) (sym (turn-stage bytes x fits n) i) rest)
+      ∙ ap (λ r. written (standAt bytes x) ++ allLog ((standAt bytes x) .session .state) ((standAt bytes x) .session .stage) r) (rest-is x)
+
+  -- a stop leaves all as it was
+  stop-came : (x : Stand) → cameTo (length (x .carry)) bytes later x ≡ cameTo (length (x .carry)) bytes later (stopAt bytes x)
+  unfolding cameTo toCome
+  stop-came x =
+      ap (λ s. written x ++ allLog (x .session .state) (x .session .stage) (arrived (length (x .carry)) s (drop (x .next) bytes ∷ later)))
+      (sym (stays-held (x .carry) (x .session .held) bytes (x .next)))
+
+  -- so from any place of a piece on, whether it stops or not
+  through-came : (fuel : ℕ) (x : Stand) → length bytes ≤ x .next + fuel → x .written ≤ length (x .memory)
+      → cameTo (length (x .carry)) bytes later x ≡ cameTo (length (x .carry)) bytes later ((through fuel bytes x) .stand)
+  unfolding through
+  through-came zero x h fits = refl
+  through-came (suc fuel) x h fits = elim (which (ltb (x .next) (length bytes))) [
+    | inl e ↦ elim (which (eqb ((turnAt bytes x) .number) 0)) [
+      | inl n ↦
+          let far : length bytes ≤ (standAt bytes x) .next + fuel = omega (arith, turn-next bytes x (ltb-true _ _ e), stand-next bytes x) in
+          let rest = through-came fuel (standAt bytes x) far (turn-fits bytes x fits) in
+          rw (e, n) (turn-came x fits (eqb-true _ _ n) ∙ (rw (stand-size bytes x) at rest))
+      | inr n ↦ rw (e, n) (stop-came x)
+    ]
+    | inr e ↦ rw e refl
+  ]
+
+through-size : (fuel : ℕ) (bytes : List ℕ) (x : Stand) → length ((through fuel bytes x) .stand .carry) ≡ length (x .carry)
+unfolding through
+through-size zero bytes x = refl
+through-size (suc fuel) bytes x = elim (which (ltb (x .next) (length bytes))) [
+  | inl e ↦ elim (which (eqb ((turnAt bytes x) .number) 0)) [
+    | inl n ↦ rw (e, n) (through-size fuel bytes (standAt bytes x) ∙ stand-size bytes x)
+    | inr n ↦ rw (e, n) (feed-length (x .carry) (x .session .held) bytes (x .next))
+  ]
+  | inr e ↦ rw e
 ]
 
--- not even a first line: as with an empty one
-no-line : (k : State) → arrivalsLog k awaiting (Line [] ∷ []) ≡ closing awaiting
-unfolding arrivalsLog lineLog lineIn headLog sameBytes headerBytes closing badBytes ascii
-no-line k = refl
+-- what was left over and what newly arrived are one text
+arrived-join : (s : Unended) (most : ℕ) (a b : List ℕ) (later : List (List ℕ)) → arrived most s (a ∷ b ∷ later) ≡ arrived most s ((a ++ b) ∷ later)
+unfolding arrived
+arrived-join s most a b later =
+    rw (arrivals-append most s a b, after-append most s a b)
+    (sym (append-assoc (arrivals most s a) (arrivals most (unendedAfter most s a) b) (arrived most (unendedAfter most (unendedAfter most s a) b) later)))
 
-none-closes : (stage : ℕ) → eqb stage awaiting ≡ false → closing stage ≡ []
-unfolding closing
-none-closes stage e = rw e
+call-came : (u : Underway) (p : Piece) (later : List (List ℕ)) → u .log ++ comes u (p .bytes ∷ later) ≡ (onward u p) .log ++ comes (onward u p) later
+unfolding onward pieceRun comes toCome cameTo
+call-came u p later =
+    let bytes = u .left ++ p .bytes in
+    let s = u .session in
+    let x = standFor s (u .carry) (p .memory) in
+    let t = (through (length bytes) bytes x) .stand in
+    ap (λ l. u .log ++ allLog (s .state) (s .stage) l) (arrived-join (unendedOf (u .carry) (s .held)) (length (u .carry)) (u .left) (p .bytes) later)
+    ∙ ap (λ l. u .log ++ l) (through-came bytes later (length bytes) x (omega arith) (omega arith))
+    ∙ ap (λ n. u .log ++ (written t ++ toCome n (t .session) (t .carry) (drop (t .next) bytes) later)) (sym (through-size (length bytes) bytes x))
+    ∙ sym (append-assoc (u .log) (written t) (toCome (length (t .carry)) (t .session) (t .carry) (drop (t .next) bytes) later))
 
--- the end: the line that was left, or `bad` where not even a first line came
-end-log : (k : State) (stage : ℕ) (es : List Arrival) → length es ≤ 1 → arrivalsLog k stage (lastArrivals stage es) ≡ allLog k stage es
-unfolding lastArrivals allLog arrivalsLog arrivalsStage
-end-log k stage [] h = elim (which (eqb stage awaiting)) [
-  | inl e ↦ let z : stage ≡ awaiting = eqb-true _ _ e in rw z (no-line k)
-  | inr e ↦ rw (e, none-closes stage e)
-]
-end-log k stage (e ∷ []) h = sym (rw (line-moves stage (lineIn e)) (append-nil (lineLog k stage (lineIn e) ++ [])))
-end-log k stage (e ∷ d ∷ es) h = absurd (omega arith)
+-- at every moment: the log so far, and what is still to come, are what was to come at first
+pub calls-came : (ps : List Piece) (u : Underway) (later : List (List ℕ)) → u .log ++ comes u (map (λ p. p .bytes) ps ++ later) ≡ (underway u ps) .log ++ comes (underway u ps) later
+unfolding underway
+calls-came [] u later = refl
+calls-came (p ∷ ps) u later = call-came u p (map (λ q. q .bytes) ps ++ later) ∙ calls-came ps (onward u p) later
 
--- what a row of lines with room puts into the lent memory
-row-log : (s : Session) (memory : List ℕ) (es : List Arrival) → lineRoom * length es ≤ length memory
-    → written (takeAll (standFor s memory) es) ≡ arrivalsLog (s .state) (s .stage) es
-row-log s memory es h =
-    ap written (arrivals-stand es (standFor s memory) (omega arith))
-    ∙ written-after (standFor s memory) (arrivalsState (s .state) (s .stage) es) (arrivalsStage (s .stage) es) (arrivalsLog (s .state) (s .stage) es)
-    (omega (arith, arrivals-room es (s .state) (s .stage)))
-
-one-arrival : (carry : List ℕ) (f : Found) → length (arrivalsOf carry [] f) ≤ 1
-one-arrival carry (found.Part start end) = omega arith
-one-arrival carry (found.Carried n) = omega arith
-one-arrival carry found.Long = omega arith
-one-arrival carry found.Nothing = omega arith
-
-last-log : (s : Session) (carry last : List ℕ) → lineRoom ≤ length last
-    → written (endRun s carry last) ≡ allLog (s .state) (s .stage) (arrivalsOf carry [] (lastFound carry (s .held)))
-unfolding endRun leftArrivals
-last-log s carry last h =
+-- the end writes what is still to come where nothing is left over, or is answered 8 and changes nothing
+last-came : (s : Session) (carry memory : List ℕ) → (endRun s carry memory) .number ≡ 0
+    → take ((endRun s carry memory) .written) (endMemory s carry memory) ≡ allLog (s .state) (s .stage) (finished (unendedOf carry (s .held)))
+unfolding endRun endMemory leftArrivals
+last-came s carry memory n =
     let es = arrivalsOf carry [] (lastFound carry (s .held)) in
-    let few = one-left (s .stage) carry (s .held) in
-    row-log s last (leftArrivals (s .stage) carry (s .held)) (omega arith) ∙ end-log (s .state) (s .stage) es (one-arrival carry (lastFound carry (s .held)))
+    (found-stands (s .state) (s .stage) memory (lastArrivals (s .stage) es) (one-left (s .stage) carry (s .held)) n) .log
+    ∙ end-log (s .state) (s .stage) es (one-arrival carry [] (lastFound carry (s .held)))
+    ∙ ap (allLog (s .state) (s .stage)) (last-arrival carry (s .held))
 
--- all pieces and the end
-pieces-arrivals : (ps : List Piece) (s : Session) (carry last : List ℕ) → AllRoomy ps → lineRoom ≤ length last
-    → piecesLog s carry ps last ≡ allLog (s .state) (s .stage) (allHanded carry (s .held) (map (λ p. p .bytes) ps))
-unfolding piecesLog allHanded pieceRun through allLog
-pieces-arrivals [] s carry last r h = last-log s carry last h
-pieces-arrivals (p ∷ ps) s carry last (more-roomy r rs) h =
-    let c = pieceCalls carry (s .held) (p .bytes) in
-    let es = c .handed in
-    let k = arrivalsState (s .state) (s .stage) es in
-    let stage = arrivalsStage (s .stage) es in
-    let rest = allHanded (c .carry) (c .held) (map (λ q. q .bytes) ps) in
-    let few = few-handed carry (s .held) (p .bytes) in
-    ap (λ l. l ++ piecesLog (movedTo (through (p .bytes) 0 (standFor s (p .memory)) carry (s .held)) .session) (c .carry) ps last) (row-log s (p .memory) es (omega arith))
-    ∙ ap (λ y. arrivalsLog (s .state) (s .stage) es ++ piecesLog (record { state = y .state; stage = y .stage; held = c .held }) (c .carry) ps last)
-    (arrivals-stand es (standFor s (p .memory)) (omega arith))
-    ∙ ap (λ l. arrivalsLog (s .state) (s .stage) es ++ l) (pieces-arrivals ps (record { state = k; stage = stage; held = c .held }) (c .carry) last rs h)
-    ∙ rw (log-append es rest (s .state) (s .stage), stage-append es rest (s .stage))
-    (sym (append-assoc (arrivalsLog (s .state) (s .stage) es) (arrivalsLog k stage rest) (closing (arrivalsStage stage rest))))
+nothing-left : (u : Underway) → u .left ≡ [] → comes u [] ≡ allLog (u .session .state) (u .session .stage) (finished (unendedOf (u .carry) (u .session .held)))
+unfolding comes toCome arrived arrivals unendedAfter
+nothing-left u e = rw e
 
--- an over-long line is no step and no first line, as an empty one is none
-empty-none : stepOn [] ≡ none
-unfolding stepOn stepIn fields pieces madeFrom madeBy words sameBytes ascii numbersOf
-empty-none = refl
+end-as-handed-in : (s : Session) (carry memory : List ℕ) (n : (endRun s carry memory) .number ≡ 0 → ⊥)
+    → (record { session = s; next = 0; written = 0; number = (endRun s carry memory) .number }) ≡ endRun s carry memory
+unfolding endRun
+end-as-handed-in s carry memory n = end-stopped s carry memory (foundTaken (s .state) (s .stage) (leftArrivals (s .stage) carry (s .held)) memory) refl n
 
-long-none : (line : List ℕ) → longest < length line → stepOn line ≡ none
-unfolding stepOn
-long-none line h = rw (lt-leb _ _ h)
+stop-again : (u : Underway) (memory : List ℕ) → ((endRun (u .session) (u .carry) memory) .number ≡ 0 → ⊥)
+    → (record {
+      session = (endRun (u .session) (u .carry) memory) .session;
+      carry = u .carry;
+      left = u .left;
+      log = u .log ++ take ((endRun (u .session) (u .carry) memory) .written) (endMemory (u .session) (u .carry) memory);
+    })
+    ≡ u
+stop-again u memory n =
+    let s = u .session in
+    let m = endMemory s (u .carry) memory in
+    let e = end-as-handed-in s (u .carry) memory n in
+    (λ i. record { session = sym e i .session; carry = u .carry; left = u .left; log = u .log ++ take (sym e i .written) m })
+    ∙ (λ i. record { session = s; carry = u .carry; left = u .left; log = append-nil (u .log) i })
 
-marked-step : (line : List ℕ) → stepOn (lineIn (marked longest line)) ≡ stepOn line
-unfolding lineIn marked
-marked-step line = elim (which (leb (length line) longest)) [
-  | inl e ↦ rw e
-  | inr e ↦ rw e (empty-none ∙ sym (long-none line (leb-false _ _ e)))
+ended-came : (more : List (List ℕ)) (u : Underway) (log : List ℕ) → u .left ≡ [] → ended u more ≡ some log → log ≡ u .log ++ comes u []
+unfolding ended
+ended-came [] u log e h = none-some refl h
+ended-came (memory ∷ more) u log e h = elim (which (eqb ((endRun (u .session) (u .carry) memory) .number) 0)) [
+  | inl n ↦
+      sym (some-same (rw n at h)) ∙ ap (λ l. u .log ++ l) (last-came (u .session) (u .carry) memory (eqb-true _ _ n) ∙ sym (nothing-left u e))
+  | inr n ↦ ended-came more u log e (ap (λ v. ended v more) (sym (stop-again u memory (eqb-false _ _ n))) ∙ (rw n at h))
 ]
 
-header-length : length headerBytes ≡ 8
-unfolding headerBytes ascii
-header-length = refl
+-- at first, all is still to come
+starting-comes : (carry : List ℕ) (later : List (List ℕ)) → length carry ≡ longest → comes (starting carry) later ≡ wholeLog (flatten later)
+unfolding comes toCome freshSession wholeLog flatten
+starting-comes carry later size =
+    rw (size, of-none carry) (ap (allLog freshRecord awaiting) (arrived-lines longest ([] ∷ later)) ∙ all-log (lines (flatten later)))
 
-marked-head : (line : List ℕ) → sameBytes (lineIn (marked longest line)) headerBytes ≡ sameBytes line headerBytes
-unfolding lineIn marked
-marked-head line = elim (which (leb (length line) longest)) [
-  | inl e ↦ rw e
-  | inr e ↦
-      let far : longest < length line = leb-false _ _ e in
-      rw (e, same-length [] headerBytes (λ z. omega (arith, header-length, z)), same-length line headerBytes (λ z. omega (arith, header-length, z, far)))
-]
+-- at every moment the log so far, and what is still to come of what is left over and what arrives later, are the whole log of the whole script
+pub moment-whole : (ps : List Piece) (carry : List ℕ) (later : List (List ℕ)) → length carry ≡ longest
+    → (underway (starting carry) ps) .log ++ comes (underway (starting carry) ps) later ≡ wholeLog (flatten (map (λ p. p .bytes) ps ++ later))
+moment-whole ps carry later size = sym (calls-came ps (starting carry) later) ∙ starting-comes carry (map (λ p. p .bytes) ps ++ later) size
 
--- the lines after the first: each is run, or, behind a bad first line, none is
-running-log : (ls : List (List ℕ)) (k : State) → allLog k running (map (marked longest) ls) ≡ logFrom k ls
-unfolding allLog arrivalsLog arrivalsStage lineLog lineState lineStage closing logFrom
-running-log [] k = refl
-running-log (l ∷ ls) k =
-    let o = lineAnswered k (stepOn l) in
-    rw (marked-step l) (append-assoc (lineFor (o .answer)) (arrivalsLog (o .state) running (map (marked longest) ls)) (closing (arrivalsStage running (map (marked longest) ls)))
-    ∙ ap (λ r. lineFor (o .answer) ++ r) (running-log ls (o .state)))
-
-over-log : (ls : List (List ℕ)) (k : State) → allLog k over (map (marked longest) ls) ≡ []
-unfolding allLog arrivalsLog arrivalsStage lineLog lineState lineStage closing
-over-log [] k = refl
-over-log (l ∷ ls) k = over-log ls k
-
--- the first line
-first-log : (k : State) (e : Arrival) (es : List Arrival) → allLog k awaiting (e ∷ es) ≡ headLog (lineIn e) ++ allLog k (headStage (lineIn e)) es
-unfolding allLog arrivalsLog arrivalsStage lineLog lineState lineStage
-first-log k e es = append-assoc (headLog (lineIn e)) (arrivalsLog k (headStage (lineIn e)) es) (closing (arrivalsStage (headStage (lineIn e)) es))
-
-all-log : (ls : List (List ℕ)) → allLog freshRecord awaiting (map (marked longest) ls) ≡ logOf ls
-unfolding allLog arrivalsLog arrivalsStage closing logOf headLog headStage
-all-log [] = refl
-all-log (l ∷ ls) = first-log freshRecord (marked longest l) (map (marked longest) ls) ∙ (rw (marked-head l) (go (sameBytes l headerBytes)))
-  where
-    rest : ℕ → List ℕ
-    rest stage = allLog freshRecord stage (map (marked longest) ls)
-
-    go : (b : Bool) → cond b logBytes badBytes ++ rest (cond b running over) ≡ cond b (logBytes ++ logFrom freshRecord ls) badBytes
-    go true = ap (λ r. logBytes ++ r) (running-log ls freshRecord)
-    go false = ap (λ r. badBytes ++ r) (over-log ls freshRecord) ∙ append-nil badBytes
-
--- the whole log of the whole script, however it arrived
-pub pieces-whole : (ps : List Piece) (carry last : List ℕ) → length carry ≡ longest → AllRoomy ps → lineRoom ≤ length last
-    → piecesLog freshSession carry ps last ≡ wholeLog (flatten (map (λ p. p .bytes) ps))
-unfolding freshSession wholeLog
-pieces-whole ps carry last size roomy room =
-    pieces-arrivals ps freshSession carry last roomy room
-    ∙ ap (λ es. allLog freshRecord awaiting es) (handed-lines carry (map (λ p. p .bytes) ps))
-    ∙ ap (λ n. allLog freshRecord awaiting (map (marked n) (lines (flatten (map (λ p. p .bytes) ps))))) size
-    ∙ all-log (lines (flatten (map (λ p. p .bytes) ps)))
+-- so once nothing is left over and the end is answered 0, the log is the whole log, however the bytes arrived and whatever memory was lent
+pub pieces-whole : (ps : List Piece) (ends : List (List ℕ)) (carry log : List ℕ) → length carry ≡ longest
+    → (underway (starting carry) ps) .left ≡ [] → ended (underway (starting carry) ps) ends ≡ some log
+    → log ≡ wholeLog (flatten (map (λ p. p .bytes) ps))
+pieces-whole ps ends carry log size none-left answered =
+    ended-came ends (underway (starting carry) ps) log none-left answered
+    ∙ moment-whole ps carry [] size
+    ∙ ap (λ l. wholeLog (flatten l)) (append-nil (map (λ p. p .bytes) ps))

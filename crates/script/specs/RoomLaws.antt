@@ -1,49 +1,31 @@
--- Laws of log lines one behind another in lent memory: with room, they stand there whole and in order.
-use mathlib.Core.Path.{_≡_, ap, sym, _∙_}
-use mathlib.Core.List.{List, [], _∷_, _++_, append-nil, append-assoc}
-use mathlib.Core.Bool.{true, cond}
+-- Laws of log lines in lent memory: a line that is taken stands there whole behind what was written, and how much room is enough for one.
+use mathlib.Core.Path.{_≡_, refl, ap, sym, _∙_}
+use mathlib.Core.List.{List, [], _∷_, _++_, append-nil}
 use mathlib.Core.Logic.{inl, inr}
-use Prim.Native.Nat.{ℕ, _+_, _*_, _≤_}
+use Prim.Native.Nat.{ℕ, _+_, _≤_}
 use native.Mathlib.Omega.{arith}
 use lib.Dec.{eqb}
-use lib.ListN.{length, take, drop, take-append-drop, length-append, length-drop}
-use lib.Seq.{length-take-le, drop-drop, drop-at}
-use borrow.Author.Tests.{le-leb}
+use lib.ListN.{length, take, drop, length-append, length-drop}
+use lib.Seq.{length-take-le, take-append-add}
+use borrow.Author.Tests.{le-leb, leb-true}
 use Rattle.lists.specs.TestLaws.{which, by-test}
 use Rattle.arrive.specs.Arrive.{Arrival}
-use Rattle.text.specs.Place.{room, putBytes, laid}
+use Rattle.arrive.specs.Feed.{arrivalsOf}
+use Rattle.arrive.specs.declared.Found.{Found}
+use Rattle.arrive.specs.declared.Found.the-variants as found
+use Rattle.text.specs.Place.{room}
 use Rattle.text.specs.PlaceLaws.{put-laid, length-put, take-laid}
 use Rattle.record.specs.declared.State.{State}
 use Rattle.syntax.specs.Ascii.{ascii}
-use Rattle.syntax.specs.Form.{sameBytes, stepOn}
+use Rattle.syntax.specs.Form.{sameBytes}
 use Rattle.syntax.specs.LogLine.{headerBytes, logBytes, badBytes}
-use Rattle.script.specs.LineRun.{awaiting, running, lineAnswered, lineFor, reported, ranLine, memoryLine, headLog, headStage, headed, memoryHead}
+use Rattle.script.specs.LineRun.{awaiting, running, headLog}
 use Rattle.script.specs.LineRunLaws.{line-room}
-use Rattle.script.specs.Session.{lineTaken, takenMemory, Stand, stood, takeLine, lineIn, takeAll}
-use Rattle.script.specs.Pieces.{lineRoom, written}
-
--- what a line puts into the log where it has room, and the record and the stage after it
-unfoldable pub lineLog : State → ℕ → List ℕ → List ℕ
-lineLog k stage line = cond (eqb stage running) (lineFor ((lineAnswered k (stepOn line)) .answer)) (cond (eqb stage awaiting) (headLog line) [])
-
-unfoldable pub lineState : State → ℕ → List ℕ → State
-lineState k stage line = cond (eqb stage running) ((lineAnswered k (stepOn line)) .state) k
-
-unfoldable pub lineStage : ℕ → List ℕ → ℕ
-lineStage stage line = cond (eqb stage running) stage (cond (eqb stage awaiting) (headStage line) stage)
-
--- and the same of a row of lines
-unfoldable pub arrivalsLog : State → ℕ → List Arrival → List ℕ
-arrivalsLog k stage [] = []
-arrivalsLog k stage (e ∷ es) = lineLog k stage (lineIn e) ++ arrivalsLog (lineState k stage (lineIn e)) (lineStage stage (lineIn e)) es
-
-unfoldable pub arrivalsState : State → ℕ → List Arrival → State
-arrivalsState k stage [] = k
-arrivalsState k stage (e ∷ es) = arrivalsState (lineState k stage (lineIn e)) (lineStage stage (lineIn e)) es
-
-unfoldable pub arrivalsStage : ℕ → List Arrival → ℕ
-arrivalsStage stage [] = stage
-arrivalsStage stage (e ∷ es) = arrivalsStage (lineStage stage (lineIn e)) es
+use Rattle.script.specs.Session.{lineLog, lineTaken, takenMemory, lineIn, foundTaken, foundMemory, turned, Stand, fedAt, carryAt, lineAt, behind, turnAt, standAt}
+use Rattle.script.specs.SessionLaws.{found-short}
+use Rattle.script.specs.Pieces.{lineRoom}
+use Rattle.script.specs.ToCome.{arrivalsLog, arrivalsState, arrivalsStage}
+use Rattle.script.specs.declared.session.Taken.{Taken}
 
 log-length : length logBytes ≤ lineRoom
 unfolding logBytes ascii
@@ -60,109 +42,115 @@ head-room line = by-test {A = List ℕ} (λ l. length l ≤ lineRoom) (sameBytes
 nil-room : length {A = ℕ} [] ≤ lineRoom
 nil-room = omega arith
 
-pub log-room : (k : State) (stage : ℕ) (line : List ℕ) → length (lineLog k stage line) ≤ lineRoom
+-- no log line is longer than `lineRoom`
+log-room : (k : State) (stage : ℕ) (line : List ℕ) → length (lineLog k stage line) ≤ lineRoom
 unfolding lineLog
 log-room k stage line =
     by-test {A = List ℕ} (λ l. length l ≤ lineRoom) (eqb stage running)
     (λ e. line-room _ _ _)
     (λ e. by-test {A = List ℕ} (λ l. length l ≤ lineRoom) (eqb stage awaiting) (λ f. head-room line) (λ f. nil-room))
 
--- one writing behind another is one writing
-laid-behind : (memory : List ℕ) (w : ℕ) (bs : List ℕ) → take w memory ++ laid (drop w memory) 0 bs ≡ laid memory w bs
-laid-behind memory w bs =
-    let z : 0 + length bs ≡ length bs = omega arith in
-    rw (z, drop-drop (length bs) w memory) (sym (append-assoc (take w memory) bs (drop (w + length bs) memory)))
+module _ (k : State) (stage : ℕ) (memory : List ℕ) where
+  pub found-length : (es : List Arrival) → length (foundMemory k stage es memory) ≡ length memory
+  unfolding foundMemory takenMemory
+  found-length [] = refl
+  found-length (e ∷ es) = length-put memory 0 (lineLog k stage (lineIn e))
 
-pub laid-nil : (memory : List ℕ) (w : ℕ) → laid memory w [] ≡ memory
-laid-nil memory w =
-    let z : w + 0 ≡ w = omega arith in
-    rw (z, append-nil (take w memory)) (take-append-drop w memory)
+  -- `lineRoom` bytes are enough for a line, which takes no more
+  pub found-fits : (es : List Arrival) → lineRoom ≤ length memory → (foundTaken k stage es memory) .number ≡ 0
+  unfolding foundTaken lineTaken
+  found-fits [] h = refl
+  found-fits (e ∷ es) h = rw (le-leb (0 + length (lineLog k stage (lineIn e))) (length memory) (omega (arith, log-room k stage (lineIn e)))) refl
 
-pub laid-laid : (memory : List ℕ) (w : ℕ) (a b : List ℕ) → w + length a ≤ length memory → laid (laid memory w a) (w + length a) b ≡ laid memory w (a ++ b)
-laid-laid memory w a b h =
-    let n : length (take w memory ++ a) ≡ w + length a = omega (arith, length-append (take w memory) a, length-take-le w memory (omega arith)) in
-    let rest : drop (w + length a) (laid memory w a) ≡ drop (w + length a) memory = drop-at (take w memory ++ a) (drop (w + length a) memory) (w + length a) n in
-    let far : w + length a + length b ≡ w + length (a ++ b) = omega (arith, length-append a b) in
-    rw (take-laid memory w a h, sym (drop-drop (length b) (w + length a) (laid memory w a)), rest, drop-drop (length b) (w + length a) memory, far, append-assoc (take w memory) a b)
+  pub found-few : (es : List Arrival) → (foundTaken k stage es memory) .written ≤ lineRoom
+  unfolding foundTaken lineTaken
+  found-few [] = omega arith
+  found-few (e ∷ es) =
+      by-test {A = Taken} (λ t. t .written ≤ lineRoom) (room memory 0 (lineLog k stage (lineIn e))) (λ r. log-room k stage (lineIn e)) (λ r. omega arith)
 
-pub length-laid : (memory : List ℕ) (w : ℕ) (a : List ℕ) → w + length a ≤ length memory → length (laid memory w a) ≡ length memory
-length-laid memory w a h = rw (put-laid memory w a h) at (length-put memory w a)
+  -- a line that is taken, or none: its record and its stage, and its log line at the front of the memory
+  pub record Stands (es : List Arrival) : Type 0 where
+    pub state : (foundTaken k stage es memory) .state ≡ arrivalsState k stage es
+    pub stage-is : (foundTaken k stage es memory) .stage ≡ arrivalsStage stage es
+    pub log : take ((foundTaken k stage es memory) .written) (foundMemory k stage es memory) ≡ arrivalsLog k stage es
 
-module _ (k : State) (stage : ℕ) (line memory : List ℕ) (fits : lineRoom ≤ length memory) where
-  line-fits : room memory 0 (lineFor ((lineAnswered k (stepOn line)) .answer)) ≡ true
-  line-fits =
-      let log = lineFor ((lineAnswered k (stepOn line)) .answer) in
-      let short : length log ≤ lineRoom = line-room _ _ _ in
-      le-leb (0 + length log) (length memory) (omega (arith, short, fits))
-
-  head-fits : room memory 0 (headLog line) ≡ true
-  head-fits = le-leb (0 + length (headLog line)) (length memory) (omega (arith, head-room line, fits))
-
-  lineTaken-room : lineTaken k stage line memory ≡ record { state = lineState k stage line; stage = lineStage stage line; written = length (lineLog k stage line) }
-  unfolding lineTaken ranLine reported headed lineState lineStage lineLog
-  lineTaken-room = elim (which (eqb stage running)) [
-    | inl e ↦ rw (e, line-fits)
-    | inr e ↦ elim (which (eqb stage awaiting)) [ inl f ↦ rw (e, f, head-fits) | inr f ↦ rw (e, f) ]
+  pub found-stands : (es : List Arrival) → length es ≤ 1 → (foundTaken k stage es memory) .number ≡ 0 → Stands es
+  unfolding foundTaken foundMemory lineTaken takenMemory arrivalsState arrivalsStage arrivalsLog
+  found-stands [] one n = record { state = refl; stage-is = refl; log = refl }
+  found-stands (e ∷ []) one n = elim (which (room memory 0 (lineLog k stage (lineIn e)))) [
+    | inl r ↦
+        let line = lineLog k stage (lineIn e) in
+        let h : 0 + length line ≤ length memory = leb-true _ _ r in
+        let front : take (length line) (take 0 memory ++ line ++ drop (0 + length line) memory) ≡ line =
+        ap (λ j. take j (take 0 memory ++ line ++ drop (0 + length line) memory)) (let z : length line ≡ 0 + length line = omega arith in z) ∙ take-laid memory 0 line h in
+        record { state = rw r; stage-is = rw r; log = rw (put-laid memory 0 line h, r) (front ∙ sym (append-nil line)) }
+    | inr r ↦ absurd (let z : _≡_ {A = ℕ} 8 0 = rw r at n in omega arith)
   ]
+  found-stands (e ∷ d ∷ es) one n = absurd (omega arith)
 
-  memory-room : takenMemory k stage line memory ≡ laid memory 0 (lineLog k stage line)
-  unfolding takenMemory memoryLine memoryHead lineLog putBytes
-  memory-room = elim (which (eqb stage running)) [
-    | inl e ↦ rw (e, line-fits)
-    | inr e ↦ elim (which (eqb stage awaiting)) [ inl f ↦ rw (e, f, head-fits) | inr f ↦ rw (e, f) (sym (laid-nil memory 0)) ]
-  ]
+-- at most one line ends in the bytes up to a line's end
+pub one-arrival : (carry bytes : List ℕ) (f : Found) → length (arrivalsOf carry bytes f) ≤ 1
+one-arrival carry bytes (found.Part start end) = omega arith
+one-arrival carry bytes (found.Carried n) = omega arith
+one-arrival carry bytes found.Long = omega arith
+one-arrival carry bytes found.Nothing = omega arith
 
--- a line with room, behind what is written
-abbrev pub standAfter : Stand → State → ℕ → List ℕ → Stand
-standAfter x k stage log = record { state = k; stage = stage; memory = laid (x .memory) (x .written) log; written = x .written + length log }
+-- what was written: so many of the memory's first bytes
+abbrev pub written : Stand → List ℕ
+written x = take (x .written) (x .memory)
 
-pub line-stands : (x : Stand) (line : List ℕ) → x .written + lineRoom ≤ length (x .memory)
-    → takeLine x line ≡ standAfter x (lineState (x .state) (x .stage) line) (lineStage (x .stage) line) (lineLog (x .state) (x .stage) line)
-unfolding takeLine
-line-stands x line h =
-    let fits : lineRoom ≤ length (drop (x .written) (x .memory)) = omega (arith, length-drop (x .written) (x .memory)) in
-    ap (λ t. stood x t (takenMemory (x .state) (x .stage) line (drop (x .written) (x .memory)))) (lineTaken-room (x .state) (x .stage) line (drop (x .written) (x .memory)) fits)
-    ∙ ap (λ m. standWith m) (ap (λ m. take (x .written) (x .memory) ++ m) (memory-room (x .state) (x .stage) line (drop (x .written) (x .memory)) fits) ∙ laid-behind (x .memory) (x .written) (lineLog (x .state) (x .stage) line))
-  where
-    standWith : List ℕ → Stand
-    standWith m = record { state = lineState (x .state) (x .stage) line; stage = lineStage (x .stage) line; memory = m; written = x .written + length (lineLog (x .state) (x .stage) line) }
+-- one turn, behind what is written
+module _ (bytes : List ℕ) (x : Stand) (fits : x .written ≤ length (x .memory)) where
+  pub turn-fits : (standAt bytes x) .written ≤ length ((standAt bytes x) .memory)
+  unfolding standAt turnAt turned
+  turn-fits =
+      omega (
+        arith,
+        found-short (x .session .state) (x .session .stage) (behind x) (lineAt bytes x),
+        found-length (x .session .state) (x .session .stage) (behind x) (lineAt bytes x),
+        length-append (take (x .written) (x .memory)) (foundMemory (x .session .state) (x .session .stage) (lineAt bytes x) (behind x)),
+        length-take-le (x .written) (x .memory) fits,
+      )
 
--- a row of lines with room
-pub arrivals-stand : (es : List Arrival) (x : Stand) → x .written + lineRoom * length es ≤ length (x .memory)
-    → takeAll x es ≡ standAfter x (arrivalsState (x .state) (x .stage) es) (arrivalsStage (x .stage) es) (arrivalsLog (x .state) (x .stage) es)
-unfolding takeAll arrivalsState arrivalsStage arrivalsLog
-arrivals-stand [] x h =
-    let z : x .written + 0 ≡ x .written = omega arith in
-    λ i. record { state = x .state; stage = x .stage; memory = sym (laid-nil (x .memory) (x .written)) i; written = sym z i }
-arrivals-stand (e ∷ es) x h =
-    let k = lineState (x .state) (x .stage) (lineIn e) in
-    let stage = lineStage (x .stage) (lineIn e) in
-    let a = lineLog (x .state) (x .stage) (lineIn e) in
-    let b = arrivalsLog k stage es in
-    let short : length a ≤ lineRoom = log-room (x .state) (x .stage) (lineIn e) in
-    let now : x .written + length a ≤ length (x .memory) = omega arith in
-    let far : x .written + length a + length b ≡ x .written + length (a ++ b) = omega (arith, length-append a b) in
-    let rest : length (laid (x .memory) (x .written) a) ≡ length (x .memory) = length-laid (x .memory) (x .written) a now in
-    let line = line-stands x (lineIn e) (omega arith) in
-    ap (λ y. takeAll y es) line ∙ arrivals-stand es (standAfter x k stage a) (omega (arith, rest))
-    ∙ (λ i. record {
-      state = arrivalsState k stage es;
-      stage = arrivalsStage stage es;
-      memory = laid-laid (x .memory) (x .written) a b now i;
-      written = far i;
-    })
+  -- the memory is as long as before, and a turn fills no more than `lineRoom` of it
+  pub turn-length : length ((standAt bytes x) .memory) ≡ length (x .memory)
+  unfolding standAt turnAt turned
+  turn-length =
+      omega (
+        arith,
+        found-length (x .session .state) (x .session .stage) (behind x) (lineAt bytes x),
+        length-append (take (x .written) (x .memory)) (foundMemory (x .session .state) (x .session .stage) (lineAt bytes x) (behind x)),
+        length-take-le (x .written) (x .memory) fits,
+        length-drop (x .written) (x .memory),
+      )
 
--- what was written then: what was there, and the log
-pub written-after : (x : Stand) (k : State) (stage : ℕ) (log : List ℕ) → x .written + length log ≤ length (x .memory)
-    → written (standAfter x k stage log) ≡ take (x .written) (x .memory) ++ log
-written-after x k stage log h = take-laid (x .memory) (x .written) log h
+  pub turn-few : (standAt bytes x) .written ≤ x .written + lineRoom
+  unfolding standAt turnAt turned
+  turn-few = omega (arith, found-few (x .session .state) (x .session .stage) (behind x) (lineAt bytes x))
 
--- the log of a row of lines is not longer than its room
-pub arrivals-room : (es : List Arrival) (k : State) (stage : ℕ) → length (arrivalsLog k stage es) ≤ lineRoom * length es
-unfolding arrivalsLog
-arrivals-room [] k stage = omega arith
-arrivals-room (e ∷ es) k stage =
-    let a = lineLog k stage (lineIn e) in
-    let b = arrivalsLog (lineState k stage (lineIn e)) (lineStage stage (lineIn e)) es in
-    let more : length b ≤ lineRoom * length es = arrivals-room es (lineState k stage (lineIn e)) (lineStage stage (lineIn e)) in
-    omega (arith, log-room k stage (lineIn e), length-append a b, more)
+  pub turn-room : x .written + lineRoom ≤ length (x .memory) → (turnAt bytes x) .number ≡ 0
+  unfolding turnAt turned
+  turn-room h = found-fits (x .session .state) (x .session .stage) (behind x) (lineAt bytes x) (omega (arith, length-drop (x .written) (x .memory)))
+
+  module _ (n : (turnAt bytes x) .number ≡ 0) where
+    turn-stands : Stands (x .session .state) (x .session .stage) (behind x) (lineAt bytes x)
+    unfolding turnAt turned
+    turn-stands = found-stands (x .session .state) (x .session .stage) (behind x) (lineAt bytes x) (one-arrival (carryAt bytes x) bytes (fedAt bytes x .found)) n
+
+    pub turn-state : (standAt bytes x) .session .state ≡ arrivalsState (x .session .state) (x .session .stage) (lineAt bytes x)
+    unfolding standAt turnAt turned
+    turn-state = turn-stands .state
+
+    pub turn-stage : (standAt bytes x) .session .stage ≡ arrivalsStage (x .session .stage) (lineAt bytes x)
+    unfolding standAt turnAt turned
+    turn-stage = turn-stands .stage-is
+
+    pub turn-log : written (standAt bytes x) ≡ written x ++ arrivalsLog (x .session .state) (x .session .stage) (lineAt bytes x)
+    unfolding standAt turnAt turned
+    turn-log =
+        let t = foundTaken (x .session .state) (x .session .stage) (lineAt bytes x) (behind x) in
+        let m = foundMemory (x .session .state) (x .session .stage) (lineAt bytes x) (behind x) in
+        let size : x .written ≡ length (take (x .written) (x .memory)) = sym (length-take-le (x .written) (x .memory) fits) in
+        ap (λ j. take (j + t .written) (take (x .written) (x .memory) ++ m)) size
+        ∙ take-append-add (take (x .written) (x .memory)) m (t .written)
+        ∙ ap (λ l. written x ++ l) (turn-stands .log)

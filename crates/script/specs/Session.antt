@@ -1,38 +1,49 @@
 -- A script whose bytes arrive in pieces: what each piece comes to, and what stands in the lent memory then.
-use Prim.Native.Nat.{ℕ, _+_}
+use Prim.Native.Nat.{ℕ, zero, suc, _+_}
 use mathlib.Core.List.{List, [], _∷_, _++_}
 use mathlib.Core.Bool.{cond}
-use lib.Dec.{eqb}
+use lib.Dec.{eqb, ltb}
 use lib.ListN.{length, take, drop}
+use Rattle.text.specs.Place.{room, putBytes}
 use Rattle.arrive.specs.Arrive.{Arrival, Line, Long}
-use Rattle.arrive.specs.Calls.{Calls, calls}
-use Rattle.arrive.specs.Feed.{lastFound, arrivalsOf}
+use Rattle.arrive.specs.Feed.{fed, carryAfter, lastFound, arrivalsOf}
 use Rattle.arrive.specs.declared.Fed.{Fed}
 use Rattle.record.specs.DemandRecord.{freshRecord}
 use Rattle.record.specs.declared.State.{State}
-use Rattle.script.specs.LineRun.{awaiting, running, ranLine, memoryLine, headed, memoryHead}
+use Rattle.syntax.specs.Form.{stepOn}
+use Rattle.script.specs.LineRun.{awaiting, running, lineAnswered, lineFor, headLog, headStage}
 use Rattle.script.specs.declared.session.Session.{Session}
 use Rattle.script.specs.declared.session.Moved.{Moved}
 use Rattle.script.specs.declared.session.Taken.{Taken}
-use Rattle.script.specs.declared.session.Turn.{Turn}
 
 -- a fresh record, the first line awaited, nothing held
 unfoldable pub freshSession : Session
 freshSession = record { state = freshRecord; stage = awaiting; held = 0 }
 
--- one line: the first line, a step, or a line after a bad first line, which is passed over
+-- a line's log line, and the record and the stage after it: the first line, a step, or a line after a bad first line, which is passed over
+unfoldable pub lineLog : State → ℕ → List ℕ → List ℕ
+lineLog k stage line = cond (eqb stage running) (lineFor ((lineAnswered k (stepOn line)) .answer)) (cond (eqb stage awaiting) (headLog line) [])
+
+unfoldable pub lineState : State → ℕ → List ℕ → State
+lineState k stage line = cond (eqb stage running) ((lineAnswered k (stepOn line)) .state) k
+
+unfoldable pub lineStage : ℕ → List ℕ → ℕ
+lineStage stage line = cond (eqb stage running) stage (cond (eqb stage awaiting) (headStage line) stage)
+
+-- the log's 8 where nothing was written: no log line is empty
+unfoldable pub roomNumber : ℕ → ℕ
+roomNumber written = cond (eqb written 0) 8 0
+
+-- one line with lent memory: taken where its log line has room; else nothing is done, and the number is the log's 8
 unfoldable pub lineTaken : State → ℕ → List ℕ → List ℕ → Taken
 lineTaken k stage line memory =
-    cond (eqb stage running)
-    (record { state = (ranLine k line memory) .state; stage = stage; written = (ranLine k line memory) .written })
-    (cond (eqb stage awaiting)
-    (record { state = k; stage = (headed line memory) .stage; written = (headed line memory) .written })
-    (record { state = k; stage = stage; written = 0 }))
+    cond (room memory 0 (lineLog k stage line))
+    (record { state = lineState k stage line; stage = lineStage stage line; written = length (lineLog k stage line); number = 0 })
+    (record { state = k; stage = stage; written = 0; number = 8 })
 
 -- the lent memory then
 unfoldable pub takenMemory : State → ℕ → List ℕ → List ℕ → List ℕ
-takenMemory k stage line memory =
-    cond (eqb stage running) (memoryLine k line memory) (cond (eqb stage awaiting) (memoryHead line memory) memory)
+takenMemory k stage line memory = putBytes memory 0 (lineLog k stage line)
 
 -- an over-long line is neither a step nor the first line, as an empty one is none
 unfoldable pub lineIn : Arrival → List ℕ
@@ -41,61 +52,86 @@ lineIn Long = []
 
 -- where a line's end was found, its line, and else nothing
 unfoldable pub foundTaken : State → ℕ → List Arrival → List ℕ → Taken
-foundTaken k stage [] memory = record { state = k; stage = stage; written = 0 }
+foundTaken k stage [] memory = record { state = k; stage = stage; written = 0; number = 0 }
 foundTaken k stage (e ∷ es) memory = lineTaken k stage (lineIn e) memory
 
 unfoldable pub foundMemory : State → ℕ → List Arrival → List ℕ → List ℕ
 foundMemory k stage [] memory = memory
 foundMemory k stage (e ∷ es) memory = takenMemory k stage (lineIn e) memory
 
-abbrev pub turnWith : Fed → Taken → Turn
-turnWith f t = record { state = t .state; stage = t .stage; held = f .held; next = f .next; written = t .written }
+-- the bytes up to a line's end, and the line that ends there
+abbrev pub turnWith : Fed → Taken → Moved
+turnWith f t =
+    record { session = record { state = t .state; stage = t .stage; held = f .held }; next = f .next; written = t .written; number = t .number }
 
-unfoldable pub turned : State → ℕ → Fed → List ℕ → List ℕ → List ℕ → Turn
-turned k stage f carry bytes memory = turnWith f (foundTaken k stage (arrivalsOf carry bytes (f .found)) memory)
+unfoldable pub turned : Session → Fed → List ℕ → List ℕ → List ℕ → Moved
+turned s f carry bytes memory = turnWith f (foundTaken (s .state) (s .stage) (arrivalsOf carry bytes (f .found)) memory)
 
--- the record, where the script stands, the lent memory, and how many bytes of it are written
+-- where a piece stands: the session, the carry, the lent memory, the place in the piece behind what was taken, and how many bytes are written
 pub record Stand : Type 0 where
-  pub state : State
-  pub stage : ℕ
+  pub session : Session
+  pub carry : List ℕ
   pub memory : List ℕ
+  pub next : ℕ
   pub written : ℕ
 
--- one line, its log line behind what is written
-abbrev pub stood : Stand → Taken → List ℕ → Stand
-stood x t rest = record { state = t .state; stage = t .stage; memory = take (x .written) (x .memory) ++ rest; written = x .written + t .written }
+-- the bytes from there on up to the next line's end, cut: the answer, the carry then, and the line that ends there, or none
+abbrev pub fedAt : List ℕ → Stand → Fed
+fedAt bytes x = fed (x .carry) (x .session .held) bytes (x .next)
 
-unfoldable pub takeLine : Stand → List ℕ → Stand
-takeLine x line =
-    let free = drop (x .written) (x .memory) in
-    stood x (lineTaken (x .state) (x .stage) line free) (takenMemory (x .state) (x .stage) line free)
+abbrev pub carryAt : List ℕ → Stand → List ℕ
+carryAt bytes x = carryAfter (x .carry) (x .session .held) bytes (x .next)
 
-unfoldable pub takeAll : Stand → List Arrival → Stand
-takeAll x [] = x
-takeAll x (e ∷ es) = takeAll (takeLine x (lineIn e)) es
+abbrev pub lineAt : List ℕ → Stand → List Arrival
+lineAt bytes x = arrivalsOf (carryAt bytes x) bytes (fedAt bytes x .found)
 
--- a piece of the script from place `at` on: what stands then, and what the carry holds of a line that goes on
+-- the memory behind what is written
+abbrev pub behind : Stand → List ℕ
+behind x = drop (x .written) (x .memory)
+
+-- that line taken: its answer, and where the piece stands then
+unfoldable pub turnAt : List ℕ → Stand → Moved
+turnAt bytes x = turned (x .session) (fedAt bytes x) (carryAt bytes x) bytes (behind x)
+
+unfoldable pub standAt : List ℕ → Stand → Stand
+standAt bytes x =
+    let m = turnAt bytes x in
+    record {
+      session = m .session;
+      carry = carryAt bytes x;
+      memory = take (x .written) (x .memory) ++ foundMemory (x .session .state) (x .session .stage) (lineAt bytes x) (behind x);
+      next = m .next;
+      written = x .written + m .written;
+    }
+
+-- or without room: as before that line, but for what the carry was given of it, behind the bytes that it holds
+abbrev pub stopAt : List ℕ → Stand → Stand
+stopAt bytes x = record { session = x .session; carry = carryAt bytes x; memory = x .memory; next = x .next; written = x .written }
+
+-- how far a piece was taken, and 0, or 8 where it stopped
 pub record Through : Type 0 where
   pub stand : Stand
-  pub carry : List ℕ
-  pub held : ℕ
+  pub number : ℕ
 
-abbrev pub along : Stand → Calls → Through
-along x c = record { stand = takeAll x (c .handed); carry = c .carry; held = c .held }
-
-unfoldable pub through : List ℕ → ℕ → Stand → List ℕ → ℕ → Through
-through bytes at x carry held = along x (calls (length bytes) carry held bytes at)
+-- line by line, at most as many as the fuel, up to the piece's end, or to a line whose log line has no room
+unfoldable pub through : ℕ → List ℕ → Stand → Through
+through zero bytes x = record { stand = x; number = 0 }
+through (suc fuel) bytes x =
+    let number = turnAt bytes x .number in
+    cond (ltb (x .next) (length bytes))
+    (cond (eqb number 0) (through fuel bytes (standAt bytes x)) (record { stand = stopAt bytes x; number = number }))
+    (record { stand = x; number = 0 })
 
 -- a session with nothing written yet
-abbrev pub standFor : Session → List ℕ → Stand
-standFor s memory = record { state = s .state; stage = s .stage; memory = memory; written = 0 }
+abbrev pub standFor : Session → List ℕ → List ℕ → Stand
+standFor s carry memory = record { session = s; carry = carry; memory = memory; next = 0; written = 0 }
+
+-- a whole piece, with lent memory for its log lines: it has at most as many lines' ends as bytes
+unfoldable pub pieceRun : Session → List ℕ → List ℕ → List ℕ → Through
+pieceRun s carry bytes memory = through (length bytes) bytes (standFor s carry memory)
 
 abbrev pub movedTo : Through → Moved
-movedTo t = record { session = record { state = t .stand .state; stage = t .stand .stage; held = t .held }; written = t .stand .written }
-
--- a whole piece, with lent memory for its log lines
-unfoldable pub pieceRun : Session → List ℕ → List ℕ → List ℕ → Through
-pieceRun s carry bytes memory = through bytes 0 (standFor s memory) carry (s .held)
+movedTo t = record { session = t .stand .session; next = t .stand .next; written = t .stand .written; number = t .number }
 
 -- nothing more arrives: a last line without LF counts; a script with no line at all has no first line, and is answered as with an empty one
 unfoldable pub lastArrivals : ℕ → List Arrival → List Arrival
@@ -105,8 +141,16 @@ lastArrivals stage (e ∷ es) = e ∷ es
 unfoldable pub leftArrivals : ℕ → List ℕ → ℕ → List Arrival
 leftArrivals stage carry held = lastArrivals stage (arrivalsOf carry [] (lastFound carry held))
 
-unfoldable pub endRun : Session → List ℕ → List ℕ → Stand
-endRun s carry memory = takeAll (standFor s memory) (leftArrivals (s .stage) carry (s .held))
+-- the end: where the last line's log line has no room, the session is as handed in
+unfoldable pub endRun : Session → List ℕ → List ℕ → Moved
+endRun s carry memory =
+    let t = foundTaken (s .state) (s .stage) (leftArrivals (s .stage) carry (s .held)) memory in
+    record {
+      session = record { state = t .state; stage = t .stage; held = cond (eqb (t .number) 0) 0 (s .held) };
+      next = 0;
+      written = t .written;
+      number = t .number;
+    }
 
-abbrev pub endTo : Stand → Moved
-endTo x = record { session = record { state = x .state; stage = x .stage; held = 0 }; written = x .written }
+unfoldable pub endMemory : Session → List ℕ → List ℕ → List ℕ
+endMemory s carry memory = foundMemory (s .state) (s .stage) (leftArrivals (s .stage) carry (s .held)) memory

@@ -1,4 +1,4 @@
--- Laws of a piece of a script, line by line: one turn, and the end.
+-- Laws of a piece of a script, line by line: one line, one turn, and the end.
 use mathlib.Core.Path.{_≡_, refl, ap, sym, _∙_}
 use mathlib.Core.List.{List, [], _∷_, _++_, append-nil}
 use mathlib.Core.Bool.{Bool, true, false, cond}
@@ -6,27 +6,88 @@ use mathlib.Core.Logic.{inl, inr}
 use Prim.Native.Nat.{ℕ, zero, suc, _+_, _-_, _≤_, _<_}
 use native.Mathlib.Omega.{arith}
 use lib.Dec.{eqb, leb, ltb}
-use lib.ListN.{length, take, drop, take-append-drop, length-drop, drop-of-length-le}
+use lib.ListN.{length, take, drop, take-append-drop, length-append, length-drop, drop-of-length-le}
 use lib.Seq.{take-all}
-use borrow.Author.Tests.{eq-eqb, ne-eqb, lt-ltb, le-ltb, ltb-true, leb-true}
+use borrow.Author.Tests.{eq-eqb, ne-eqb, eqb-true, lt-ltb, le-ltb, le-leb, ltb-true, leb-true}
 use Rattle.lists.specs.TestLaws.{which, clash, by-test}
+use Rattle.decimal.specs.Decimal.{decimal}
 use Rattle.arrive.specs.Arrive.{Arrival, Line}
-use Rattle.arrive.specs.Calls.{calls, noCall, behindArrivals}
-use Rattle.arrive.specs.Feed.{fed, carryAfter, foundLine, arrivalsOf, lastFound}
+use Rattle.arrive.specs.Feed.{foundLine, arrivalsOf, lastFound}
 use Rattle.arrive.specs.FeedArrivalLaws.{feed-on}
 use Rattle.arrive.specs.declared.Fed.{Fed}
 use Rattle.arrive.specs.declared.Found.{Found}
 use Rattle.arrive.specs.declared.Found.the-variants as found
+use Rattle.record.specs.StepRecord.{stays}
 use Rattle.record.specs.declared.State.{State}
-use Rattle.text.specs.Place.{room}
-use Rattle.syntax.specs.Form.{stepOn}
-use Rattle.script.specs.LineRun.{awaiting, running, lineAnswered, lineFor, reported, ranLine, headLog, headed}
-use Rattle.script.specs.Session.{lineTaken, takenMemory, lineIn, foundTaken, foundMemory, turnWith, turned, Stand, stood, takeLine, takeAll, along, through, standFor, lastArrivals, leftArrivals, endRun}
+use Rattle.text.specs.Fields.{tab}
+use Rattle.text.specs.Lines.{lf}
+use Rattle.text.specs.Place.{room, putBytes}
+use Rattle.rules.specs.Log.{runField}
+use Rattle.walks.specs.Walk.{taskAt}
+use Rattle.syntax.specs.Ascii.{ascii}
+use Rattle.syntax.specs.Form.{sameBytes, stepOn}
+use Rattle.syntax.specs.LogLine.{lineBytes, headerBytes, logBytes, badBytes}
+use Rattle.script.specs.LineRun.{awaiting, running, lineAnswered, lineFor, reported, ranLine, memoryLine, headLog, headed, memoryHead}
+use Rattle.script.specs.Session.{lineLog, lineState, lineStage, roomNumber, lineTaken, takenMemory, lineIn, foundTaken, foundMemory, turnWith, turned, Stand, carryAt, lineAt, behind, turnAt, standAt, stopAt, through, lastArrivals, leftArrivals, endRun}
 use Rattle.script.specs.declared.session.Session.{Session}
-use Rattle.script.specs.declared.run.Ran.{Ran}
-use Rattle.script.specs.declared.run.Headed.{Headed}
+use Rattle.script.specs.declared.session.Moved.{Moved}
 use Rattle.script.specs.declared.session.Taken.{Taken}
-use Rattle.script.specs.declared.session.Turn.{Turn}
+
+-- no log line is empty
+line-some : (number value run : ℕ) → 0 < length (lineBytes number value run)
+unfolding lineBytes
+line-some number value run = omega (arith, length-append (decimal number) (tab ∷ (decimal value ++ (tab ∷ (runField (taskAt run) ++ (lf ∷ []))))))
+
+head-some : (line : List ℕ) → 0 < length (headLog line)
+unfolding headLog logBytes badBytes ascii
+head-some line = by-test {A = List ℕ} (λ l. 0 < length l) (sameBytes line headerBytes) (λ e. omega arith) (λ e. omega arith)
+
+some-number : (n : ℕ) → 0 < n → roomNumber n ≡ 0
+unfolding roomNumber
+some-number n h = rw (ne-eqb n 0 (λ z. omega arith))
+
+no-number : roomNumber 0 ≡ 8
+unfolding roomNumber
+no-number = refl
+
+-- one line, by where the script stands
+module _ (k : State) (stage : ℕ) (line memory : List ℕ) where
+  -- what `run_line` answers, as the session takes it
+  pub ran-taken : eqb stage running ≡ true
+      → (record { state = (ranLine k line memory) .state; stage = stage; written = (ranLine k line memory) .written; number = roomNumber ((ranLine k line memory) .written) })
+      ≡ lineTaken k stage line memory
+  unfolding ranLine reported lineTaken lineLog lineState lineStage stays
+  ran-taken e =
+      let o = lineAnswered k (stepOn line) in
+      let full : roomNumber (length (lineFor (o .answer))) ≡ 0 = some-number _ (line-some _ _ _) in
+      rw e (elim (which (room memory 0 (lineFor (o .answer)))) [ inl r ↦ rw (r, full) | inr r ↦ rw (r, no-number) ])
+
+  pub ran-memory : eqb stage running ≡ true → memoryLine k line memory ≡ takenMemory k stage line memory
+  unfolding memoryLine takenMemory lineLog
+  ran-memory e = rw e
+
+  -- and what `run_header` answers
+  pub headed-taken : eqb stage running ≡ false → eqb stage awaiting ≡ true
+      → (record { state = k; stage = (headed line memory) .stage; written = (headed line memory) .written; number = roomNumber ((headed line memory) .written) })
+      ≡ lineTaken k stage line memory
+  unfolding headed lineTaken lineLog lineState lineStage
+  headed-taken d e =
+      let full : roomNumber (length (headLog line)) ≡ 0 = some-number _ (head-some line) in
+      let z : stage ≡ awaiting = eqb-true _ _ e in
+      rw (d, e) (elim (which (room memory 0 (headLog line))) [ inl r ↦ rw (r, full) | inr r ↦ rw (r, z, no-number) ])
+
+  pub headed-memory : eqb stage running ≡ false → eqb stage awaiting ≡ true → memoryHead line memory ≡ takenMemory k stage line memory
+  unfolding memoryHead takenMemory lineLog
+  headed-memory d e = rw (d, e)
+
+  -- behind a bad first line
+  pub passed-taken : eqb stage running ≡ false → eqb stage awaiting ≡ false → (record { state = k; stage = stage; written = 0; number = 0 }) ≡ lineTaken k stage line memory
+  unfolding lineTaken lineLog lineState lineStage
+  passed-taken d e = rw (d, e, le-leb 0 (length memory) (omega arith))
+
+  pub passed-memory : eqb stage running ≡ false → eqb stage awaiting ≡ false → memory ≡ takenMemory k stage line memory
+  unfolding takenMemory lineLog putBytes
+  passed-memory d e = rw (d, e, le-leb 0 (length memory) (omega arith))
 
 -- no line's end was found
 unfoldable pub nothingb : Found → Bool
@@ -50,97 +111,79 @@ module _ (k : State) (stage : ℕ) (carry bytes memory : List ℕ) where
   line-memory found.Long e = refl
   line-memory found.Nothing e = absurd (clash refl e)
 
--- a line's end, or none, behind what is written
-pub found-stands : (x : Stand) (carry bytes : List ℕ) (f : Found)
-    → takeAll x (arrivalsOf carry bytes f)
-    ≡ stood x (foundTaken (x .state) (x .stage) (arrivalsOf carry bytes f) (drop (x .written) (x .memory)))
-    (foundMemory (x .state) (x .stage) (arrivalsOf carry bytes f) (drop (x .written) (x .memory)))
-unfolding takeAll takeLine foundTaken foundMemory
-found-stands x carry bytes (found.Part start end) = refl
-found-stands x carry bytes (found.Carried n) = refl
-found-stands x carry bytes found.Long = refl
-found-stands x carry bytes found.Nothing =
-    let z : x .written + 0 ≡ x .written = omega arith in
-    λ i. record { state = x .state; stage = x .stage; memory = sym (take-append-drop (x .written) (x .memory)) i; written = sym z i }
+-- where there is no room nothing is written
+module _ (k : State) (stage : ℕ) (memory : List ℕ) where
+  pub stop-memory : (es : List Arrival) → ((foundTaken k stage es memory) .number ≡ 0 → ⊥) → foundMemory k stage es memory ≡ memory
+  unfolding foundTaken foundMemory lineTaken takenMemory putBytes
+  stop-memory [] h = refl
+  stop-memory (e ∷ es) h = elim (which (room memory 0 (lineLog k stage (lineIn e)))) [
+    | inl r ↦ absurd ((rw r at h) refl)
+    | inr r ↦ rw r
+  ]
+
+  pub stop-taken : (es : List Arrival) → ((foundTaken k stage es memory) .number ≡ 0 → ⊥) → foundTaken k stage es memory ≡ record { state = k; stage = stage; written = 0; number = 8 }
+  unfolding foundTaken lineTaken
+  stop-taken [] h = absurd (h refl)
+  stop-taken (e ∷ es) h = elim (which (room memory 0 (lineLog k stage (lineIn e)))) [
+    | inl r ↦ absurd ((rw r at h) refl)
+    | inr r ↦ rw r
+  ]
+
+  -- what is written is not more than the memory that is lent for it
+  pub found-short : (es : List Arrival) → (foundTaken k stage es memory) .written ≤ length memory
+  unfolding foundTaken lineTaken
+  found-short [] = omega arith
+  found-short (e ∷ es) =
+      let log = lineLog k stage (lineIn e) in
+      by-test {A = Taken} (λ r. r .written ≤ length memory) (room memory 0 log)
+      (λ r. let h : 0 + length log ≤ length memory = leb-true _ _ r in omega arith) (λ r. omega arith)
+
+-- a turn goes on
+pub turn-next : (bytes : List ℕ) (x : Stand) → x .next < length bytes → x .next < (turnAt bytes x) .next
+unfolding turnAt turned
+turn-next bytes x h = feed-on (x .carry) (x .session .held) bytes (x .next) h
+
+pub stand-next : (bytes : List ℕ) (x : Stand) → (standAt bytes x) .next ≡ (turnAt bytes x) .next
+unfolding standAt
+stand-next bytes x = refl
 
 -- more fuel than bytes are left changes nothing
-calls-more : (fuel : ℕ) (carry : List ℕ) (held : ℕ) (bytes : List ℕ) (at : ℕ) → length bytes ≤ at + fuel → calls (suc fuel) carry held bytes at ≡ calls fuel carry held bytes at
-unfolding calls
-calls-more zero carry held bytes at h = rw (le-ltb at (length bytes) (omega arith))
-calls-more (suc fuel) carry held bytes at h = elim (which (ltb at (length bytes))) [
-  | inl e ↦
-      let on = feed-on carry held bytes at (ltb-true _ _ e) in
-      rw e (ap (behindArrivals (arrivalsOf (carryAfter carry held bytes at) bytes (fed carry held bytes at .found))) (calls-more fuel (carryAfter carry held bytes at) (fed carry held bytes at .held) bytes (fed carry held bytes at .next) (omega arith)))
+through-more : (fuel : ℕ) (bytes : List ℕ) (x : Stand) → length bytes ≤ x .next + fuel → through (suc fuel) bytes x ≡ through fuel bytes x
+unfolding through
+through-more zero bytes x h = rw (le-ltb (x .next) (length bytes) (omega arith))
+through-more (suc fuel) bytes x h = elim (which (ltb (x .next) (length bytes))) [
+  | inl e ↦ elim (which (eqb ((turnAt bytes x) .number) 0)) [
+    | inl n ↦ rw (e, n) (through-more fuel bytes (standAt bytes x) (omega (arith, turn-next bytes x (ltb-true _ _ e), stand-next bytes x)))
+    | inr n ↦ rw (e, n)
+  ]
   | inr e ↦ rw e
 ]
 
-take-append : (a b : List Arrival) (x : Stand) → takeAll x (a ++ b) ≡ takeAll (takeAll x a) b
-unfolding takeAll
-take-append [] b x = refl
-take-append (e ∷ a) b x = take-append a b (takeLine x (lineIn e))
-
-none-left : (fuel : ℕ) (carry : List ℕ) (held : ℕ) (bytes : List ℕ) (at : ℕ) → length bytes ≤ at → calls fuel carry held bytes at ≡ noCall carry held
-unfolding calls
-none-left zero carry held bytes at h = refl
-none-left (suc fuel) carry held bytes at h = rw (le-ltb at (length bytes) h)
-
-module _ (bytes : List ℕ) (at : ℕ) (x : Stand) (carry : List ℕ) (held : ℕ) where
-  abbrev nextCarry : List ℕ
-  nextCarry = carryAfter carry held bytes at
-
-  abbrev nextFed : Fed
-  nextFed = fed carry held bytes at
-
+module _ (bytes : List ℕ) (x : Stand) where
   -- one turn
-  pub through-turn : at < length bytes
-      → through bytes at x carry held
-      ≡ through bytes (nextFed .next) (takeAll x (arrivalsOf nextCarry bytes (nextFed .found))) nextCarry (nextFed .held)
-  unfolding through calls
-  through-turn h =
-      let rest = calls (length bytes) nextCarry (nextFed .held) bytes (nextFed .next) in
-      let es = arrivalsOf nextCarry bytes (nextFed .found) in
-      let more : calls (suc (length bytes)) carry held bytes at ≡ behindArrivals es rest = rw (lt-ltb at (length bytes) h) refl in
-      ap (along x) (sym (calls-more (length bytes) carry held bytes at (omega arith)) ∙ more)
-      ∙ (λ i. record { stand = take-append es (rest .handed) x i; carry = rest .carry; held = rest .held })
+  through-turn : x .next < length bytes → (turnAt bytes x) .number ≡ 0 → through (length bytes) bytes x ≡ through (length bytes) bytes (standAt bytes x)
+  unfolding through
+  through-turn h n = sym (through-more (length bytes) bytes x (omega arith)) ∙ rw (lt-ltb (x .next) (length bytes) h, eq-eqb _ _ n) refl
+
+  -- a line without room
+  through-stop : x .next < length bytes → ((turnAt bytes x) .number ≡ 0 → ⊥) → through (length bytes) bytes x ≡ record { stand = stopAt bytes x; number = (turnAt bytes x) .number }
+  unfolding through
+  through-stop h n = sym (through-more (length bytes) bytes x (omega arith)) ∙ rw (lt-ltb (x .next) (length bytes) h, ne-eqb _ _ n) refl
 
   -- no byte is left
-  pub through-end : length bytes ≤ at → through bytes at x carry held ≡ record { stand = x; carry = carry; held = held }
-  unfolding through takeAll
-  through-end h = ap (along x) (none-left (length bytes) carry held bytes at h)
+  pub through-end : length bytes ≤ x .next → through (length bytes) bytes x ≡ record { stand = x; number = 0 }
+  unfolding through
+  through-end h = sym (through-more (length bytes) bytes x (omega arith)) ∙ rw (le-ltb (x .next) (length bytes) h) refl
 
 -- what was found, with equals in place of equals
-module _ (k : State) (stage : ℕ) (bytes memory : List ℕ) (f g : Fed) (c d : List ℕ) (e : f ≡ g) (u : c ≡ d) where
-  pub turn-same : (t : Taken) → t ≡ foundTaken k stage (arrivalsOf c bytes (f .found)) memory → turnWith f t ≡ turned k stage g d bytes memory
+module _ (s : Session) (bytes memory : List ℕ) (f g : Fed) (c d : List ℕ) (e : f ≡ g) (u : c ≡ d) where
+  pub turn-same : (t : Taken) → t ≡ foundTaken (s .state) (s .stage) (arrivalsOf c bytes (f .found)) memory → turnWith f t ≡ turned s g d bytes memory
   unfolding turned
-  turn-same t h = ap (turnWith f) h ∙ (λ i. turnWith (e i) (foundTaken k stage (arrivalsOf (u i) bytes (e i .found)) memory))
+  turn-same t h = ap (turnWith f) h ∙ (λ i. turnWith (e i) (foundTaken (s .state) (s .stage) (arrivalsOf (u i) bytes (e i .found)) memory))
 
-  pub memory-same : (m : List ℕ) → m ≡ foundMemory k stage (arrivalsOf c bytes (f .found)) memory → m ≡ foundMemory k stage (arrivalsOf d bytes (g .found)) memory
-  memory-same m h = h ∙ (λ i. foundMemory k stage (arrivalsOf (u i) bytes (e i .found)) memory)
-
--- a log line is not longer than the memory that is lent for it
-run-short : (k : State) (line memory : List ℕ) → (ranLine k line memory) .written ≤ length memory
-unfolding ranLine reported
-run-short k line memory =
-    let log = lineFor ((lineAnswered k (stepOn line)) .answer) in
-    by-test {A = Ran} (λ r. r .written ≤ length memory) (room memory 0 log)
-    (λ e. let h : 0 + length log ≤ length memory = leb-true _ _ e in omega arith) (λ e. omega arith)
-
-head-short : (line memory : List ℕ) → (headed line memory) .written ≤ length memory
-unfolding headed
-head-short line memory =
-    by-test {A = Headed} (λ r. r .written ≤ length memory) (room memory 0 (headLog line))
-    (λ e. let h : 0 + length (headLog line) ≤ length memory = leb-true _ _ e in omega arith) (λ e. omega arith)
-
-pub lineTaken-short : (k : State) (stage : ℕ) (line memory : List ℕ) → (lineTaken k stage line memory) .written ≤ length memory
-unfolding lineTaken
-lineTaken-short k stage line memory =
-    by-test {A = Taken} (λ r. r .written ≤ length memory) (eqb stage running) (λ e. run-short k line memory)
-    (λ e. by-test {A = Taken} (λ r. r .written ≤ length memory) (eqb stage awaiting) (λ d. head-short line memory) (λ d. omega arith))
-
-pub found-short : (k : State) (stage : ℕ) (es : List Arrival) (memory : List ℕ) → (foundTaken k stage es memory) .written ≤ length memory
-unfolding foundTaken
-found-short k stage [] memory = omega arith
-found-short k stage (e ∷ es) memory = lineTaken-short k stage (lineIn e) memory
+  pub memory-same : (m : List ℕ) → m ≡ foundMemory (s .state) (s .stage) (arrivalsOf c bytes (f .found)) memory
+      → m ≡ foundMemory (s .state) (s .stage) (arrivalsOf d bytes (g .found)) memory
+  memory-same m h = h ∙ (λ i. foundMemory (s .state) (s .stage) (arrivalsOf (u i) bytes (e i .found)) memory)
 
 -- the whole rest of a memory, lent as a part of it and put back
 pub rest-part : (l : List ℕ) (w : ℕ) → take (length l - w) (drop w l) ≡ drop w l
@@ -153,29 +196,33 @@ pub rest-back : (l : List ℕ) (w : ℕ) (m : List ℕ) → take w l ++ (m ++ dr
 rest-back l w m = rw (rest-none l w) (ap (λ z. take w l ++ z) (append-nil m))
 
 -- one turn of the loop: what stands then, and what is left to do, is what was to do before it
-module _ (bytes : List ℕ) (at : ℕ) (x : Stand) (carry : List ℕ) (held : ℕ) (more : at < length bytes) (t : Turn)
-    (is : t ≡ turned (x .state) (x .stage) (fed carry held bytes at) (carryAfter carry held bytes at) bytes (drop (x .written) (x .memory))) where
-  pub turn-on : at < t .next
-  unfolding turned
-  turn-on = let e : t .next ≡ fed carry held bytes at .next = ap (λ (u : Turn). u .next) is in omega (arith, e, feed-on carry held bytes at more)
+module _ (bytes : List ℕ) (x : Stand) (more : x .next < length bytes) (t : Moved) (is : t ≡ turnAt bytes x) where
+  pub turn-on : x .next < t .next
+  turn-on = let e : t .next ≡ (turnAt bytes x) .next = ap (λ (u : Moved). u .next) is in omega (arith, e, turn-next bytes x more)
 
   pub turn-short : x .written ≤ length (x .memory) → x .written + t .written ≤ length (x .memory)
-  unfolding turned
+  unfolding turnAt turned
   turn-short h =
-      let rest = drop (x .written) (x .memory) in
-      let es = arrivalsOf (carryAfter carry held bytes at) bytes (fed carry held bytes at .found) in
-      let e : t .written ≡ (foundTaken (x .state) (x .stage) es rest) .written = ap (λ (u : Turn). u .written) is in
-      omega (arith, e, found-short (x .state) (x .stage) es rest, length-drop (x .written) (x .memory))
+      let e : t .written ≡ (foundTaken (x .session .state) (x .session .stage) (lineAt bytes x) (behind x)) .written = ap (λ (u : Moved). u .written) is in
+      omega (arith, e, found-short (x .session .state) (x .session .stage) (behind x) (lineAt bytes x), length-drop (x .written) (x .memory))
 
-  pub turn-again : (c : List ℕ) → c ≡ carryAfter carry held bytes at → (m : List ℕ)
-      → m ≡ take (x .written) (x .memory) ++ foundMemory (x .state) (x .stage) (arrivalsOf (carryAfter carry held bytes at) bytes (fed carry held bytes at .found)) (drop (x .written) (x .memory))
-      → through bytes (t .next) (record { state = t .state; stage = t .stage; memory = m; written = x .written + t .written }) c (t .held) ≡ through bytes at x carry held
-  unfolding turned
-  turn-again c u m v =
-      (λ i. through bytes (is i .next) (record { state = is i .state; stage = is i .stage; memory = v i; written = x .written + is i .written }) (u i) (is i .held))
-      ∙ ap (λ y. through bytes (fed carry held bytes at .next) y (carryAfter carry held bytes at) (fed carry held bytes at .held))
-      (sym (found-stands x (carryAfter carry held bytes at) bytes (fed carry held bytes at .found)))
-      ∙ sym (through-turn bytes at x carry held more)
+  module _ (c : List ℕ) (u : c ≡ carryAt bytes x) (m : List ℕ) (v : m ≡ take (x .written) (x .memory) ++ foundMemory (x .session .state) (x .session .stage) (lineAt bytes x) (behind x)) where
+    pub turn-again : t .number ≡ 0
+        → through (length bytes) bytes (record { session = t .session; carry = c; memory = m; next = t .next; written = x .written + t .written }) ≡ through (length bytes) bytes x
+    unfolding standAt
+    turn-again n =
+        (λ i. through (length bytes) bytes (record { session = is i .session; carry = u i; memory = v i; next = is i .next; written = x .written + is i .written }))
+        ∙ sym (through-turn bytes x more (sym (ap (λ (w : Moved). w .number) is) ∙ n))
+
+    pub turn-stop : (t .number ≡ 0 → ⊥)
+        → (record { stand = record { session = x .session; carry = c; memory = m; next = x .next; written = x .written }; number = t .number }) ≡ through (length bytes) bytes x
+    unfolding turnAt turned
+    turn-stop n =
+        let other : (turnAt bytes x) .number ≡ 0 → ⊥ = λ z. n (ap (λ (w : Moved). w .number) is ∙ z) in
+        let same : m ≡ x .memory =
+        v ∙ ap (λ r. take (x .written) (x .memory) ++ r) (stop-memory (x .session .state) (x .session .stage) (behind x) (lineAt bytes x) other) ∙ take-append-drop (x .written) (x .memory) in
+        (λ i. record { stand = record { session = x .session; carry = u i; memory = same i; next = x .next; written = x .written }; number = is i .number })
+        ∙ sym (through-stop bytes x more other)
 
 -- the end of a script: by what was left of it
 module _ (stage : ℕ) (carry : List ℕ) (held : ℕ) where
@@ -206,28 +253,26 @@ pub one-left : (stage : ℕ) (carry : List ℕ) (held : ℕ) → length (leftArr
 unfolding leftArrivals
 one-left stage carry held = one-last stage carry (lastFound carry held)
 
--- the one line that is left, or none, at the front of the memory
-one-stands : (s : Session) (memory : List ℕ) (es : List Arrival) → length es ≤ 1
-    → takeAll (standFor s memory) es
-    ≡ record {
-      state = (foundTaken (s .state) (s .stage) es memory) .state;
-      stage = (foundTaken (s .state) (s .stage) es memory) .stage;
-      memory = foundMemory (s .state) (s .stage) es memory;
-      written = (foundTaken (s .state) (s .stage) es memory) .written;
-    }
-unfolding takeAll takeLine foundTaken foundMemory
-one-stands s memory [] h = refl
-one-stands s memory (e ∷ []) h =
-    let t = lineTaken (s .state) (s .stage) (lineIn e) memory in
-    let z : 0 + t .written ≡ t .written = omega arith in
-    λ i. record { state = t .state; stage = t .stage; memory = takenMemory (s .state) (s .stage) (lineIn e) memory; written = z i }
-one-stands s memory (e ∷ d ∷ es) h = absurd (omega arith)
+-- the end: what was left was taken, or had no room
+module _ (s : Session) (carry memory : List ℕ) (t : Taken) (is : t ≡ foundTaken (s .state) (s .stage) (leftArrivals (s .stage) carry (s .held)) memory) where
+  pub end-taken : t .number ≡ 0
+      → (record { session = record { state = t .state; stage = t .stage; held = 0 }; next = 0; written = t .written; number = 0 }) ≡ endRun s carry memory
+  unfolding endRun
+  end-taken n =
+      (λ i. record { session = record { state = t .state; stage = t .stage; held = sym (held n) i }; next = 0; written = t .written; number = sym n i })
+      ∙ (λ i. record {
+        session = record { state = is i .state; stage = is i .stage; held = cond (eqb (is i .number) 0) 0 (s .held) };
+        next = 0;
+        written = is i .written;
+        number = is i .number;
+      })
+    where
+      held : t .number ≡ 0 → cond (eqb (t .number) 0) 0 (s .held) ≡ 0
+      held n = rw n
 
-pub end-stands : (s : Session) (carry memory : List ℕ) (t : Taken) (m : List ℕ)
-    → t ≡ foundTaken (s .state) (s .stage) (leftArrivals (s .stage) carry (s .held)) memory
-    → m ≡ foundMemory (s .state) (s .stage) (leftArrivals (s .stage) carry (s .held)) memory
-    → (record { state = t .state; stage = t .stage; memory = m; written = t .written }) ≡ endRun s carry memory
-unfolding endRun
-end-stands s carry memory t m e u =
-    (λ i. record { state = e i .state; stage = e i .stage; memory = u i; written = e i .written })
-    ∙ sym (one-stands s memory (leftArrivals (s .stage) carry (s .held)) (one-left (s .stage) carry (s .held)))
+  pub end-stopped : (t .number ≡ 0 → ⊥) → (record { session = s; next = 0; written = 0; number = t .number }) ≡ endRun s carry memory
+  unfolding endRun
+  end-stopped n =
+      let es = leftArrivals (s .stage) carry (s .held) in
+      let other : (foundTaken (s .state) (s .stage) es memory) .number ≡ 0 → ⊥ = λ z. n (ap (λ (w : Taken). w .number) is ∙ z) in
+      rw (is, stop-taken (s .state) (s .stage) memory es other)

@@ -1,10 +1,11 @@
 // One line of a script run on a record, with lent memory for its log line.
 ghost use mathlib.Core.Path.{_≡_};
-ghost use Rattle.text.specs.Place.{putAnswer, putBytes};
+ghost use Rattle.text.specs.Place.{putBytes};
 ghost use Rattle.record.specs.StepRecord.{stays};
 ghost use Rattle.record.specs.DemandRecord.{standingIn};
 ghost use Rattle.syntax.specs.Form.{stepOn};
-ghost use Rattle.script.specs.LineRun.{lineAnswered, lineFor, ranWith, ranLine, memoryLine, headed, memoryHead};
+ghost use Rattle.syntax.specs.LogLine.{lineBytes};
+ghost use Rattle.script.specs.LineRun.{lineAnswered, ranWith, reported, ranLine, memoryLine, headed, memoryHead};
 use record::Answer;
 use record::Out;
 use record::State;
@@ -39,33 +40,39 @@ fn answer_line(s: State, line: &[u8]) -> Out
 {
     let reading = read::read_line(line);
     let Reading::Made(request) = reading else {
-        return kernel::stopped(s, 14);
+        return kernel::malformed(s);
     };
     kernel::step(s, request)
-}
-
-// An answer's line: its number, its value and the task to run.
-fn write_answer(log: &mut [u8], a: Answer) -> Put
-    ensures answer { λ r. ⌜ r ≡ putAnswer (now (log .entry)) 0 (lineFor a) ⌝ }
-    ensures memory { λ r. ⌜ now (log .exit) ≡ putBytes (now (log .entry)) 0 (lineFor a) ⌝ }
-{
-    match a {
-        Answer::Accepted { number, value, run } => log::write_line(log, number, value, run),
-        Answer::Refused { number, value, run } => log::write_line(log, number, value, run),
-    }
 }
 
 // The log's 8: its line has no room, and the step isn't made.
 fn without_room(s: State) -> Ran
     ensures { λ r. ⌜ r ≡ ranWith (stays s 8 0 (standingIn s)) 0 ⌝ }
 {
-    let o = kernel::stopped(s, 8);
+    let o = kernel::without_room(s);
     let a = o.answer;
     let same = o.state;
     Ran {
         state: same,
         answer: a,
         written: 0,
+    }
+}
+
+// An answer logged by its number, value and task, at the front of the lent memory; without room the step isn't made.
+fn report(s: State, o: Out, number: u8, value: u32, run: u8, log: &mut [u8]) -> Ran
+    ensures answer { λ r. ⌜ r ≡ reported s o (lineBytes number value run) (now (log .entry)) ⌝ }
+    ensures memory { λ r. ⌜ now (log .exit) ≡ putBytes (now (log .entry)) 0 (lineBytes number value run) ⌝ }
+{
+    let a = o.answer;
+    let next = o.state;
+    match log::write_line(log, number, value, run) {
+        Put::Next(n) => Ran {
+            state: next,
+            answer: a,
+            written: n,
+        },
+        Put::Full => without_room(s),
     }
 }
 
@@ -76,27 +83,16 @@ pub fn run_line(s: State, line: &[u8], log: &mut [u8]) -> Ran
 {
     let o = answer_line(s, line);
     let a = o.answer;
-    let next = o.state;
     let Answer::Accepted { number, value, run } = a else {
         // refused: only logged, and the record is still the one handed in
-        return match write_answer(log, a) {
-            Put::Next(n) => Ran {
-                state: next,
-                answer: a,
-                written: n,
-            },
-            Put::Full => without_room(s),
+        let Answer::Refused { number, value, run } = a else {
+            // never reached: an answer is accepted or refused
+            return without_room(s);
         };
+        return report(s, o, number, value, run, log);
     };
     // accepted: goes on
-    match log::write_line(log, number, value, run) {
-        Put::Next(n) => Ran {
-            state: next,
-            answer: a,
-            written: n,
-        },
-        Put::Full => without_room(s),
-    }
+    report(s, o, number, value, run, log)
 }
 
 // The script's first line: the log's first line, or `bad`, at the front of the lent memory.

@@ -1,7 +1,7 @@
 // A script whose bytes arrive in any pieces, run line by line.
 ghost use mathlib.Core.Path.{_≡_};
 ghost use Rattle.arrive.specs.Feed.{fed, carryAfter, arrivalsOf};
-ghost use Rattle.script.specs.Session.{freshSession, lineTaken, takenMemory, foundTaken, foundMemory, turned, pieceRun, movedTo, leftArrivals, endRun, endTo};
+ghost use Rattle.script.specs.Session.{freshSession, roomNumber, lineTaken, takenMemory, foundTaken, foundMemory, turned, movedTo, pieceRun, leftArrivals, endRun, endMemory};
 use crate::run;
 use crate::run::AWAITING;
 use crate::run::RUNNING;
@@ -15,26 +15,31 @@ pub struct Session {
     pub held: usize,
 }
 
-// What a piece of the script came to: the session then, and how many bytes of log were written.
+// What a piece of the script came to: the session then, the place behind what was taken, and how many bytes of log were written. The number is 0
+// where all was taken, and 8 where the line that begins at `next` has no room for its log line: nothing of that line is done.
 pub struct Moved {
     pub session: Session,
+    pub next: usize,
     pub written: usize,
+    pub number: u8,
 }
 
-// What one line came to: the record, where the script stands, and how many bytes of log were written.
+// What one line came to: the record, where the script stands, how many bytes of log were written, and 0, or 8 where there was no room for them.
 struct Taken {
     state: State,
     stage: u8,
     written: usize,
+    number: u8,
 }
 
-// What the bytes up to a line's end came to: as for a line, and how many bytes the carry holds and where the next line begins.
-struct Turn {
-    state: State,
-    stage: u8,
-    held: usize,
-    next: usize,
-    written: usize,
+// The log's 8 where nothing was written: no log line is empty.
+fn room_number(written: usize) -> u8
+    ensures { λ r. ⌜ r ≡ roomNumber written ⌝ }
+{
+    if written == 0 {
+        return 8;
+    }
+    0
 }
 
 // The first line, a step, or a line after a bad first line, which is passed over.
@@ -49,6 +54,7 @@ fn take(s: State, stage: u8, line: &[u8], log: &mut [u8]) -> Taken
             state: next,
             stage: stage,
             written: r.written,
+            number: room_number(r.written),
         };
     }
     if stage == AWAITING {
@@ -57,12 +63,14 @@ fn take(s: State, stage: u8, line: &[u8], log: &mut [u8]) -> Taken
             state: s,
             stage: h.stage,
             written: h.written,
+            number: room_number(h.written),
         };
     }
     Taken {
         state: s,
         stage: stage,
         written: 0,
+        number: 0,
     }
 }
 
@@ -87,34 +95,32 @@ fn take_found<'a>(
             state: s,
             stage: stage,
             written: 0,
+            number: 0,
         },
     }
 }
 
 // The bytes from `at` on up to the next line's end, and the line that ends there.
-fn next_line(
-    s: State,
-    stage: u8,
-    held: usize,
-    carry: &mut [u8],
-    bytes: &[u8],
-    at: usize,
-    log: &mut [u8],
-) -> Turn
-    ensures answer { λ r. ⌜ r ≡ turned s stage (fed (now (carry .entry)) held (now (bytes .entry)) at) (carryAfter (now (carry .entry)) held (now (bytes .entry)) at) (now (bytes .entry)) (now (log .entry)) ⌝ }
-    ensures carried { λ r. ⌜ now (carry .exit) ≡ carryAfter (now (carry .entry)) held (now (bytes .entry)) at ⌝ }
-    ensures memory { λ r. ⌜ now (log .exit) ≡ foundMemory s stage (arrivalsOf (carryAfter (now (carry .entry)) held (now (bytes .entry)) at) (now (bytes .entry)) (fed (now (carry .entry)) held (now (bytes .entry)) at .found)) (now (log .entry)) ⌝ }
+fn next_line(session: Session, carry: &mut [u8], bytes: &[u8], at: usize, log: &mut [u8]) -> Moved
+    ensures answer { λ r. ⌜ r ≡ turned session (fed (now (carry .entry)) (session .held) (now (bytes .entry)) at) (carryAfter (now (carry .entry)) (session .held) (now (bytes .entry)) at) (now (bytes .entry)) (now (log .entry)) ⌝ }
+    ensures carried { λ r. ⌜ now (carry .exit) ≡ carryAfter (now (carry .entry)) (session .held) (now (bytes .entry)) at ⌝ }
+    ensures memory { λ r. ⌜ now (log .exit) ≡ foundMemory (session .state) (session .stage) (arrivalsOf (carryAfter (now (carry .entry)) (session .held) (now (bytes .entry)) at) (now (bytes .entry)) (fed (now (carry .entry)) (session .held) (now (bytes .entry)) at .found)) (now (log .entry)) ⌝ }
 {
-    let f = arrive::feed(carry, held, bytes, at);
+    let f = arrive::feed(carry, session.held, bytes, at);
     let found = f.found;
-    let t = take_found(s, stage, carry, bytes, found, log);
+    let s = session.state;
+    let t = take_found(s, session.stage, carry, bytes, found, log);
     let next = t.state;
-    Turn {
+    let then = Session {
         state: next,
         stage: t.stage,
         held: f.held,
+    };
+    Moved {
+        session: then,
         next: f.next,
         written: t.written,
+        number: t.number,
     }
 }
 
@@ -130,35 +136,36 @@ pub fn begin() -> Session
     }
 }
 
-// A piece of the script, with lent memory for the log lines of the lines that end in it. The caller lends a carry of LONGEST bytes and 33 bytes
-// of log for each byte of the piece. A line longer than the carry is answered 14. A line whose log line has no room is passed over: its
-// step isn't made (the log's 8), or, where it is the first line, the next one is taken for it; only `written` shows it.
+// A piece of the script, with lent memory for the log lines of the lines that end in it. A line longer than the carry, which has LONGEST bytes,
+// is answered 14. At a line whose log line has no room it stops with 8, the record as before that line: the caller writes the log, and goes
+// on with the bytes from `next` on, the same carry and more memory. 33 bytes are room for any line.
 pub fn arrive(session: Session, carry: &mut [u8], bytes: &[u8], log: &mut [u8]) -> Moved
     ensures answer { λ r. ⌜ r ≡ movedTo (pieceRun session (now (carry .entry)) (now (bytes .entry)) (now (log .entry))) ⌝ }
-    ensures carried { λ r. ⌜ now (carry .exit) ≡ pieceRun session (now (carry .entry)) (now (bytes .entry)) (now (log .entry)) .carry ⌝ }
+    ensures carried { λ r. ⌜ now (carry .exit) ≡ pieceRun session (now (carry .entry)) (now (bytes .entry)) (now (log .entry)) .stand .carry ⌝ }
     ensures memory { λ r. ⌜ now (log .exit) ≡ pieceRun session (now (carry .entry)) (now (bytes .entry)) (now (log .entry)) .stand .memory ⌝ }
 {
-    let mut s = session.state;
-    let mut stage = session.stage;
-    let mut held = session.held;
+    let mut so_far = session;
     let mut at = 0;
     let mut written = 0;
     while at < bytes.len() {
-        let t = next_line(s, stage, held, carry, bytes, at, &mut log[written..]);
-        s = t.state;
-        stage = t.stage;
-        held = t.held;
-        at = t.next;
-        written = written + t.written;
+        let m = next_line(so_far, carry, bytes, at, &mut log[written..]);
+        if m.number != 0 {
+            return Moved {
+                session: so_far,
+                next: at,
+                written: written,
+                number: m.number,
+            };
+        }
+        so_far = m.session;
+        at = m.next;
+        written = written + m.written;
     }
-    let then = Session {
-        state: s,
-        stage: stage,
-        held: held,
-    };
     Moved {
-        session: then,
+        session: so_far,
+        next: at,
         written: written,
+        number: 0,
     }
 }
 
@@ -176,19 +183,29 @@ fn take_last(s: State, stage: u8, carry: &[u8], held: usize, log: &mut [u8]) -> 
             state: s,
             stage: stage,
             written: 0,
+            number: 0,
         };
     }
     let found = arrive::finish(carry, held);
     take_found(s, stage, carry, none, found, log)
 }
 
-// The end of the script, with lent memory for one log line: 33 bytes. With less a last line without LF can be passed over, as in `arrive`.
+// The end of the script, with lent memory for one log line. Where it has no room the number is 8 and the session is the one handed in, for
+// another call with more memory. No bytes are handed in, so `next` is 0.
 pub fn end(session: Session, carry: &[u8], log: &mut [u8]) -> Moved
-    ensures answer { λ r. ⌜ r ≡ endTo (endRun session (now (carry .entry)) (now (log .entry))) ⌝ }
-    ensures memory { λ r. ⌜ now (log .exit) ≡ endRun session (now (carry .entry)) (now (log .entry)) .memory ⌝ }
+    ensures answer { λ r. ⌜ r ≡ endRun session (now (carry .entry)) (now (log .entry)) ⌝ }
+    ensures memory { λ r. ⌜ now (log .exit) ≡ endMemory session (now (carry .entry)) (now (log .entry)) ⌝ }
 {
     let s = session.state;
     let t = take_last(s, session.stage, carry, session.held, log);
+    if t.number != 0 {
+        return Moved {
+            session: session,
+            next: 0,
+            written: 0,
+            number: t.number,
+        };
+    }
     let next = t.state;
     let then = Session {
         state: next,
@@ -197,6 +214,8 @@ pub fn end(session: Session, carry: &[u8], log: &mut [u8]) -> Moved
     };
     Moved {
         session: then,
+        next: 0,
         written: t.written,
+        number: 0,
     }
 }

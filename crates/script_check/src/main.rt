@@ -1,4 +1,7 @@
-// Runs a script that lies whole in lent memory, a line at a time by its place, and writes its log, to be compared with the stored output.
+// Runs a script that lies whole in lent memory, a line at a time by its place, and sessions with too little lent memory; what they write is
+// compared with the stored output.
+mod stops;
+
 use libc::STDOUT_FILENO;
 use reader::whole;
 use record::State;
@@ -35,9 +38,11 @@ fn replay(text: &[u8]) {
     }
 }
 
-// Document 01's whole session, with an empty line, one that is no step, and a last line without LF.
+// Document 01's whole session, with an empty line, one that is no step, and a last line without LF; then the sessions that stop.
 fn main() {
     replay(
         b"kernel\t1\ntask\t5\ntask\t3\ntask\t1\nmutex\t1\nstart\nsleep\t3\nsleep\t2\nlock\t0\t0\ntick\ntick\ntick\nlock\t0\t10\nlevel\t0\nunlock\t0\n\nrest\t1\ntick",
     );
+    stops::good();
+    stops::bad();
 }

@@ -6,7 +6,7 @@ use Rattle.cungkalisa.proofs.main.Statement.{statement}
 use Rattle.cungkalisa.proofs.main.Tie as tie
 
 abbrev Inv-loop : tie.InvT-loop
-Inv-loop carry₀ piece₀ log₀ s₀ turns₀ carry piece log s turns = (length carry ≡ 80) × (length piece ≡ 1536) × (length log ≡ 50688)
+Inv-loop carry₀ piece₀ log₀ s₀ turns₀ carry piece log s turns = (length carry ≡ 80) × (length piece ≡ 16384) × (length log ≡ 16384)
 
 abbrev μ-loop : tie.MeasureT-loop
 μ-loop carry₀ piece₀ log₀ s₀ turns₀ carry piece log s turns = turns

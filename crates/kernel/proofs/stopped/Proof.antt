@@ -1,5 +1,5 @@
--- `stopped`: the record stays.
-use Rattle.record.specs.StepRecord.{stays}
+-- `kernel::stopped`: the record stays.
+use Rattle.record.specs.StepRecord.{answerFor, stays}
 use borrow.Author.Needs.{needs}
 use Rattle.kernel.proofs.stopped.Statement.{statement}
 use Rattle.kernel.proofs.stopped.Tie as tie
@@ -7,9 +7,12 @@ use Rattle.kernel.proofs.stopped.Tie as tie
 standing-requires : tie.Need-standing-requires
 standing-requires c κs = search needs
 
+answer-requires : tie.Need-answer-requires
+answer-requires c κs = search needs
+
 returns : tie.Need-returns
-unfolding stays
-returns c = rw (c .standing .ensures)
+unfolding stays answerFor
+returns c = rw (c .answer .ensures, c .before .standing .ensures)
 
 pub stopped-spec : {M : Type 1} → statement M
-stopped-spec = tie.close (tie.spec standing-requires returns)
+stopped-spec = tie.close (tie.spec standing-requires answer-requires returns)

@@ -13,8 +13,8 @@ step-requires c κs = search needs
 enum-told : tie.Need-enum-told
 enum-told c = search needs
 
-stopped-requires : tie.Need-stopped-requires
-stopped-requires c κs = search needs
+malformed-requires : tie.Need-malformed-requires
+malformed-requires c κs = search needs
 
 returns : tie.Need-returns
 unfolding callOf
@@ -22,8 +22,8 @@ returns c = rw (c .before .before .x .given .1) (c .step .ensures)
 
 returns-2 : tie.Need-returns-2
 unfolding callOf
-returns-2 c = rw (c .before .enum-told .given .1) (c .stopped .ensures)
+returns-2 c = rw (c .before .enum-told .given .1) (c .malformed .ensures)
 
 pub call-spec : {M : Type 1} → statement M
 call-spec =
-    tie.close (tie.spec enum-known-x step-requires enum-told stopped-requires returns returns-2)
+    tie.close (tie.spec enum-known-x step-requires enum-told malformed-requires returns returns-2)

@@ -1,6 +1,5 @@
--- `answer_line`: a line that is a step is answered by the kernel, any other 14.
-use borrow.Author.Needs.{needs}
 -- `answer_line`: the step that was read, or 14.
+use borrow.Author.Needs.{needs}
 use mathlib.Core.Path.{sym, _∙_}
 use Rattle.script.specs.LineRunLaws.{read-made, read-none}
 use Rattle.script.proofs.run.answer_line.Statement.{statement}
@@ -15,11 +14,11 @@ enum-known-reading c = search needs
 enum-told : tie.Need-enum-told
 enum-told c = search needs
 
-stopped-requires : tie.Need-stopped-requires
-stopped-requires c κs = search needs
+malformed-requires : tie.Need-malformed-requires
+malformed-requires c κs = search needs
 
 returns : tie.Need-returns
-returns c = c .stopped .ensures ∙ sym (read-none _ _ (sym (c .before .before .before .read-line .ensures) ∙ c .before .enum-told .given .1))
+returns c = c .malformed .ensures ∙ sym (read-none _ _ (sym (c .before .before .before .read-line .ensures) ∙ c .before .enum-told .given .1))
 
 step-requires : tie.Need-step-requires
 step-requires c κs = search needs
@@ -34,7 +33,7 @@ answer-line-spec =
     read-line-requires
     enum-known-reading
     enum-told
-    stopped-requires
+    malformed-requires
     returns
     step-requires
     returns-2)

@@ -1,9 +1,7 @@
--- `run_line`: by the answer's case and by the room for its log line.
-use mathlib.Core.Path.{ap, sym, _∙_}
-use Rattle.text.specs.Place.{putAnswer, putBytes}
+-- `run_line`: by the answer's case.
+use mathlib.Core.Path.{_∙_}
 use Rattle.record.specs.StepRecord.{numberOf, valueOf, runOf}
-use Rattle.script.specs.LineRun.{lineFor, reported, ranLine, memoryLine}
-use Rattle.script.specs.LineRunLaws.{reported-next, reported-full}
+use Rattle.script.specs.LineRunLaws.{answer-reported, answer-memory}
 use borrow.Author.Needs.{needs}
 use Rattle.script.proofs.run.run_line.Statement.{statement}
 use Rattle.script.proofs.run.run_line.Tie as tie
@@ -14,82 +12,51 @@ answer-line-requires c κs = search needs
 enum-known-a : tie.Need-enum-known-a
 enum-known-a c = search needs
 
+enum-known-a-2 : tie.Need-enum-known-a-2
+enum-known-a-2 c = search needs
+
+enum-known-a-3 : tie.Need-enum-known-a-3
+enum-known-a-3 c = search needs
+
 enum-told : tie.Need-enum-told
 enum-told c = search needs
-
-write-answer-requires : tie.Need-write-answer-requires
-write-answer-requires c κs = search needs
-
-enum-known-n : tie.Need-enum-known-n
-enum-known-n c = search needs
-
-enum-told-2 : tie.Need-enum-told-2
-enum-told-2 c = search needs
 
 without-room-requires : tie.Need-without-room-requires
 without-room-requires c κs = search needs
 
+-- an answer that is neither accepted nor refused: there is none
+returns : tie.Need-returns
+returns c = search needs
+
+report-requires : tie.Need-report-requires
+report-requires c κs = search needs
+
 same-length : tie.Need-same-length
 same-length c = search needs
 
-returns : tie.Need-returns
-unfolding ranLine memoryLine
-returns c =
+returns-2 : tie.Need-returns-2
+unfolding numberOf valueOf runOf
+returns-2 c =
     let a = c .before .before .before .before .before .before .before .before .before .before .before .before .before .args in
     let o = c .before .before .before .before .before .before .before .before .before .before .answer-line in
-    let w = c .before .before .before .before .before .write-answer in
-    let put = sym (w .ensures .0) ∙ c .before .n .given .1 in
-    (sym (reported-next (a .s) (o .result) (a .log .now) _ put) ∙ ap (λ p. reported (a .s) p (a .log .now)) (o .ensures), w .ensures .1 ∙ ap (λ p. putBytes (a .log .now) 0 (lineFor (p .answer))) (o .ensures))
+    let r = c .before .before .report .ensures in
+    let is = c .before .before .before .before .before .before .before .before .a2 .given .1 ∙ c .before .before .before .before .before .a3 .given .1 in
+    (r .0 ∙ answer-reported (a .s) (a .line .now) (a .log .now) (o .result) (o .ensures) _ is, r .1 ∙ answer-memory (a .s) (a .line .now) (a .log .now) (o .result) (o .ensures) _ is)
+
+report-requires-2 : tie.Need-report-requires-2
+report-requires-2 c κs = search needs
 
 same-length-2 : tie.Need-same-length-2
 same-length-2 c = search needs
 
-returns-2 : tie.Need-returns-2
-unfolding ranLine memoryLine
-returns-2 c =
-    let a = c .before .before .before .before .before .before .before .before .before .before .before .before .before .args in
-    let o = c .before .before .before .before .before .before .before .before .before .before .answer-line in
-    let w = c .before .before .before .before .before .write-answer in
-    let put = sym (w .ensures .0) ∙ c .before .enum-told2 .given .1 in
-    (c .without-room .ensures ∙ sym (reported-full (a .s) (o .result) (a .log .now) put) ∙ ap (λ p. reported (a .s) p (a .log .now)) (o .ensures), w .ensures .1 ∙ ap (λ p. putBytes (a .log .now) 0 (lineFor (p .answer))) (o .ensures))
-
-write-line-requires : tie.Need-write-line-requires
-write-line-requires c κs = search needs
-
-enum-known-n-2 : tie.Need-enum-known-n-2
-enum-known-n-2 c = search needs
-
-enum-told-3 : tie.Need-enum-told-3
-enum-told-3 c = search needs
-
-without-room-requires-2 : tie.Need-without-room-requires-2
-without-room-requires-2 c κs = search needs
-
-same-length-3 : tie.Need-same-length-3
-same-length-3 c = search needs
-
 returns-3 : tie.Need-returns-3
-unfolding ranLine memoryLine numberOf valueOf runOf
+unfolding numberOf valueOf runOf
 returns-3 c =
-    let a = c .before .before .before .before .before .before .before .before .before .before .before .before .before .before .args in
-    let o = c .before .before .before .before .before .before .before .before .before .before .before .answer-line in
-    let w = c .before .before .before .before .before .write-line in
-    let is = c .before .before .before .before .before .before .before .before .a .given .1 in
-    let put = ap (λ b. putAnswer (a .log .now) 0 (lineFor b)) is ∙ sym (w .ensures .0) ∙ c .before .n2 .given .1 in
-    ((λ i. record { state = o .result .state; answer = sym is i; written = c .before .n2 .given .0 .0 }) ∙ sym (reported-next (a .s) (o .result) (a .log .now) _ put) ∙ ap (λ p. reported (a .s) p (a .log .now)) (o .ensures), w .ensures .1 ∙ ap (λ b. putBytes (a .log .now) 0 (lineFor b)) (sym is) ∙ ap (λ p. putBytes (a .log .now) 0 (lineFor (p .answer))) (o .ensures))
-
-same-length-4 : tie.Need-same-length-4
-same-length-4 c = search needs
-
-returns-4 : tie.Need-returns-4
-unfolding ranLine memoryLine numberOf valueOf runOf
-returns-4 c =
-    let a = c .before .before .before .before .before .before .before .before .before .before .before .before .before .before .args in
-    let o = c .before .before .before .before .before .before .before .before .before .before .before .answer-line in
-    let w = c .before .before .before .before .before .write-line in
-    let is = c .before .before .before .before .before .before .before .before .a .given .1 in
-    let put = ap (λ b. putAnswer (a .log .now) 0 (lineFor b)) is ∙ sym (w .ensures .0) ∙ c .before .enum-told3 .given .1 in
-    (c .without-room2 .ensures ∙ sym (reported-full (a .s) (o .result) (a .log .now) put) ∙ ap (λ p. reported (a .s) p (a .log .now)) (o .ensures), w .ensures .1 ∙ ap (λ b. putBytes (a .log .now) 0 (lineFor b)) (sym is) ∙ ap (λ p. putBytes (a .log .now) 0 (lineFor (p .answer))) (o .ensures))
+    let a = c .before .before .before .before .before .before .before .before .before .before .args in
+    let o = c .before .before .before .before .before .before .before .answer-line in
+    let r = c .before .before .report2 .ensures in
+    let is = c .before .before .before .before .before .a .given .1 in
+    (r .0 ∙ answer-reported (a .s) (a .line .now) (a .log .now) (o .result) (o .ensures) _ is, r .1 ∙ answer-memory (a .s) (a .line .now) (a .log .now) (o .result) (o .ensures) _ is)
 
 pub run-line-spec : {M : Type 1} → statement M
 run-line-spec =
@@ -97,20 +64,14 @@ run-line-spec =
     (tie.spec
     answer-line-requires
     enum-known-a
+    enum-known-a-2
+    enum-known-a-3
     enum-told
-    write-answer-requires
-    enum-known-n
-    enum-told-2
     without-room-requires
-    same-length
     returns
-    same-length-2
+    report-requires
+    same-length
     returns-2
-    write-line-requires
-    enum-known-n-2
-    enum-told-3
-    without-room-requires-2
-    same-length-3
-    returns-3
-    same-length-4
-    returns-4)
+    report-requires-2
+    same-length-2
+    returns-3)

@@ -1,4 +1,4 @@
--- `without_room`: the answer of `stopped`, and the record as it was.
+-- `without_room`: the kernel's answer, and the record as it was.
 use mathlib.Core.Path.{ap}
 use Rattle.script.specs.LineRun.{ranWith}
 use Rattle.record.specs.StepRecord.{stays}
@@ -6,12 +6,12 @@ use borrow.Author.Needs.{needs}
 use Rattle.script.proofs.run.without_room.Statement.{statement}
 use Rattle.script.proofs.run.without_room.Tie as tie
 
-stopped-requires : tie.Need-stopped-requires
-stopped-requires c κs = search needs
+without-room-requires : tie.Need-without-room-requires
+without-room-requires c κs = search needs
 
 returns : tie.Need-returns
 unfolding stays
-returns c = ap (λ o. ranWith o 0) (c .before .stopped .ensures)
+returns c = ap (λ o. ranWith o 0) (c .before .without-room .ensures)
 
 pub without-room-spec : {M : Type 1} → statement M
-without-room-spec = tie.close (tie.spec stopped-requires returns)
+without-room-spec = tie.close (tie.spec without-room-requires returns)

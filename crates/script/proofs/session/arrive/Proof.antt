@@ -1,14 +1,13 @@
--- `arrive`: what is left to do of the piece, from what stands now, comes to what the whole piece comes to.
+-- `arrive`: what is left to do of the piece, from where it stands now, comes to what the whole piece comes to.
 use borrow.Author.Needs.{needs}
 use mathlib.Core.Path.{_≡_, refl, ap, sym, _∙_}
-use Prim.Native.Nat.{_+_, _-_, _≤_}
+use mathlib.Core.List.{List, _++_}
+use Prim.Native.Nat.{ℕ, _+_, _-_, _≤_}
 use native.Mathlib.Omega.{arith}
-use mathlib.Core.List.{_++_}
 use lib.ListN.{length, take, drop}
 use borrow.Rule.Slice.PartMut.{same-len-mid}
-use Rattle.arrive.specs.Feed.{fed, carryAfter, arrivalsOf}
-use Rattle.script.specs.Session.{foundMemory, turned, Stand, movedTo, Through, through, pieceRun}
-use Rattle.script.specs.SessionLaws.{rest-part, rest-back, turn-on, turn-short, turn-again, through-end}
+use Rattle.script.specs.Session.{foundMemory, turned, Stand, fedAt, carryAt, lineAt, behind, turnAt, movedTo, Through, through, pieceRun}
+use Rattle.script.specs.SessionLaws.{rest-part, rest-back, turn-on, turn-short, turn-again, turn-stop, through-end}
 use Rattle.script.proofs.session.arrive.Statement.{statement}
 use Rattle.script.proofs.session.arrive.Tie as tie
 use Rattle.script.proofs.session.arrive.Reads as reads
@@ -16,13 +15,13 @@ use Rattle.script.proofs.session.arrive.Lts as lts
 use Rattle.script.proofs.session.next_line.Reads as next-line-reads
 
 abbrev Inv-loop : tie.InvT-loop
-Inv-loop carry₀ bytes log₀ s₀ stage₀ held₀ at₀ written₀ carry log s stage held at written =
+Inv-loop carry₀ bytes log₀ so-far₀ at₀ written₀ carry log so-far at written =
     (written ≤ length log) × (length log ≡ length log₀) × (length carry ≡ length carry₀)
-    × (through bytes at (record { state = s; stage = stage; memory = log; written = written }) carry held
-    ≡ through bytes 0 (record { state = s₀; stage = stage₀; memory = log₀; written = 0 }) carry₀ held₀)
+    × (through (length bytes) bytes (record { session = so-far; carry = carry; memory = log; next = at; written = written })
+    ≡ through (length bytes) bytes (record { session = so-far₀; carry = carry₀; memory = log₀; next = 0; written = 0 }))
 
 abbrev μ-loop : tie.MeasureT-loop
-μ-loop carry₀ bytes log₀ s₀ stage₀ held₀ at₀ written₀ carry log s stage held at written = length bytes - at
+μ-loop carry₀ bytes log₀ so-far₀ at₀ written₀ carry log so-far at written = length bytes - at
 
 loop-holds : tie.Need-loop-holds Inv-loop μ-loop
 loop-holds c = (search needs, refl, refl, refl)
@@ -43,45 +42,32 @@ next-line-requires c κs = search needs
 abbrev Turned : Type 0
 Turned = lts.After-struct-known (next-line-reads.Asked, next-line-reads.Learnt) reads.Pre reads.Post Inv-loop μ-loop
 
+abbrev bytes-in : Turned → List ℕ
+bytes-in c = c .before .before .before .before .before .before .before .before .before .before .before .before .before .args .bytes .now
+
 abbrev before-turn : Turned → Stand
-before-turn c = let l = c .before .before .before .before .before .before .before .before .before .before .loop in record { state = l .s; stage = l .stage; memory = l .log; written = l .written }
+before-turn c = let l = c .before .before .before .before .before .before .before .before .before .loop in record { session = l .so-far; carry = l .carry; memory = l .log; next = l .at; written = l .written }
 
 -- what `next_line` answered, of the memory behind what is written
-turn-is : (c : Turned) → (let l = c .before .before .before .before .before .before .before .before .before .before .loop in let bytes = c .before .before .before .before .before .before .before .before .before .before .before .before .before .before .before .args .bytes .now in
-    c .before .before .before .before .before .before .next-line .result ≡ turned (l .s) (l .stage) (fed (l .carry) (l .held) bytes (l .at)) (carryAfter (l .carry) (l .held) bytes (l .at)) bytes (drop (l .written) (l .log)))
+turn-is : (c : Turned) → c .before .before .before .before .before .next-line .result ≡ turnAt (bytes-in c) (before-turn c)
+unfolding turnAt
 turn-is c =
-    let l = c .before .before .before .before .before .before .before .before .before .before .loop in
-    let bytes = c .before .before .before .before .before .before .before .before .before .before .before .before .before .before .before .args .bytes .now in
-    c .before .before .before .before .before .before .next-line .ensures .0
-    ∙ ap (turned (l .s) (l .stage) (fed (l .carry) (l .held) bytes (l .at)) (carryAfter (l .carry) (l .held) bytes (l .at)) bytes) (rest-part (l .log) (l .written))
+    let x = before-turn c in
+    c .before .before .before .before .before .next-line .ensures .0 ∙ ap (turned (x .session) (fedAt (bytes-in c) x) (carryAt (bytes-in c) x) (bytes-in c)) (rest-part (x .memory) (x .written))
 
-add-written : tie.Need-add-written Inv-loop μ-loop
-add-written c =
-    let l = c .before .before .before .before .before .before .before .before .before .before .loop in
-    let short = turn-short (c .before .before .before .before .before .before .before .before .before .before .before .before .before .before .before .args .bytes .now) (l .at) (before-turn c) (l .carry) (l .held) (c .before .before .before .before .before .before .before .before .before .loop-test .taken) (c .before .before .before .before .before .before .next-line .result) (turn-is c) (l .inv .0) in
-    omega (arith, short, l .inv .1, c .before .before .before .before .before .before .before .before .before .before .before .before .before .before .before .good .1 .1 .1 .0 .0)
+-- and the whole memory then
+memory-is : (c : Turned)
+    → (let x = before-turn c in
+    take (x .written) (x .memory) ++ (c .before .before .before .before .before .next-line .last .1 .1 .1 .1 .0 ++ drop (length (x .memory) - x .written) (drop (x .written) (x .memory)))
+    ≡ take (x .written) (x .memory) ++ foundMemory (x .session .state) (x .session .stage) (lineAt (bytes-in c) x) (behind x))
+memory-is c =
+    let x = before-turn c in
+    let n = c .before .before .before .before .before .next-line in
+    rest-back (x .memory) (x .written) (n .last .1 .1 .1 .1 .0)
+    ∙ ap (λ m. take (x .written) (x .memory) ++ m) (n .ensures .1 .1 ∙ ap (foundMemory (x .session .state) (x .session .stage) (lineAt (bytes-in c) x)) (rest-part (x .memory) (x .written)))
 
-loop-less : tie.Need-loop-less Inv-loop μ-loop
-loop-less c =
-    let l = c .before .before .before .before .before .before .before .before .before .before .loop in
-    omega (arith, turn-on (c .before .before .before .before .before .before .before .before .before .before .before .before .before .before .before .args .bytes .now) (l .at) (before-turn c) (l .carry) (l .held) (c .before .before .before .before .before .before .before .before .before .loop-test .taken) (c .before .before .before .before .before .before .next-line .result) (turn-is c), c .before .before .before .before .before .before .before .before .before .loop-test .taken)
-
-loop-again : tie.Need-loop-again Inv-loop μ-loop
-loop-again c =
-    let l = c .before .before .before .before .before .before .before .before .before .before .loop in
-    let bytes = c .before .before .before .before .before .before .before .before .before .before .before .before .before .before .before .args .bytes .now in
-    let n = c .before .before .before .before .before .before .next-line in
-    let more = c .before .before .before .before .before .before .before .before .before .loop-test .taken in
-    let short = turn-short bytes (l .at) (before-turn c) (l .carry) (l .held) more (n .result) (turn-is c) (l .inv .0) in
-    let size = same-len-mid (l .written) (length (l .log) - l .written) (l .log) (n .last .1 .1 .1 .1 .1 .1 .0) (n .kept .1 .1 .1 .1 .1 .1 .0) in (
-      omega (arith, short, size),
-      size ∙ l .inv .1,
-      n .kept .1 .1 .1 .0 ∙ l .inv .2,
-      turn-again bytes (l .at) (before-turn c) (l .carry) (l .held) more (n .result) (turn-is c) _ (n .ensures .1 .0) _
-          (rest-back (l .log) (l .written) (n .last .1 .1 .1 .1 .1 .1 .0)
-          ∙ ap (λ m. take (l .written) (l .log) ++ m) (n .ensures .1 .1 ∙ ap (foundMemory (l .s) (l .stage) (arrivalsOf (carryAfter (l .carry) (l .held) bytes (l .at)) bytes (fed (l .carry) (l .held) bytes (l .at) .found))) (rest-part (l .log) (l .written))))
-          ∙ l .inv .3,
-    )
+turn-fits : (c : Turned) → (let l = c .before .before .before .before .before .before .before .before .before .loop in l .written + c .before .before .before .before .before .next-line .result .written ≤ length (l .log))
+turn-fits c = turn-short (bytes-in c) (before-turn c) (c .before .before .before .before .before .before .before .before .loop-test .taken) (c .before .before .before .before .before .next-line .result) (turn-is c) (c .before .before .before .before .before .before .before .before .before .loop .inv .0)
 
 same-length : tie.Need-same-length Inv-loop μ-loop
 same-length c = search needs
@@ -92,10 +78,47 @@ same-length-2 c = search needs
 returns : tie.Need-returns Inv-loop μ-loop
 unfolding pieceRun
 returns c =
+    let k = c .before in
+    let n = k .before .before .before .before .before .next-line in
+    let e = turn-stop (bytes-in k) (before-turn k) (k .before .before .before .before .before .before .before .before .loop-test .taken) (n .result) (turn-is k) _ (n .ensures .1 .0) _ (memory-is k) (c .if1 .taken) ∙ k .before .before .before .before .before .before .before .before .before .loop .inv .3 in
+    (ap movedTo e, (ap (λ (t : Through). t .stand .carry) e, ap (λ (t : Through). t .stand .memory) e))
+
+add-written : tie.Need-add-written Inv-loop μ-loop
+add-written c =
+    let k = c .before .before .before in
+    omega (arith, turn-fits k, k .before .before .before .before .before .before .before .before .before .loop .inv .1, k .before .before .before .before .before .before .before .before .before .before .before .before .before .good .1 .1 .1 .0 .0)
+
+loop-less : tie.Need-loop-less Inv-loop μ-loop
+loop-less c =
+    let k = c .before .before .before in
+    let more = k .before .before .before .before .before .before .before .before .loop-test .taken in
+    omega (arith, turn-on (bytes-in k) (before-turn k) more (k .before .before .before .before .before .next-line .result) (turn-is k), more)
+
+loop-again : tie.Need-loop-again Inv-loop μ-loop
+loop-again c =
+    let k = c .before .before .before in
+    let l = k .before .before .before .before .before .before .before .before .before .loop in
+    let n = k .before .before .before .before .before .next-line in
+    let size = same-len-mid (l .written) (length (l .log) - l .written) (l .log) (n .last .1 .1 .1 .1 .0) (n .kept .1 .1 .1 .1 .0) in (
+      omega (arith, turn-fits k, size),
+      size ∙ l .inv .1,
+      n .kept .1 .0 ∙ l .inv .2,
+      turn-again (bytes-in k) (before-turn k) (k .before .before .before .before .before .before .before .before .loop-test .taken) (n .result) (turn-is k) _ (n .ensures .1 .0) _ (memory-is k) (c .before .before .if1 .left) ∙ l .inv .3,
+    )
+
+same-length-3 : tie.Need-same-length-3 Inv-loop μ-loop
+same-length-3 c = search needs
+
+same-length-4 : tie.Need-same-length-4 Inv-loop μ-loop
+same-length-4 c = search needs
+
+returns-2 : tie.Need-returns-2 Inv-loop μ-loop
+unfolding pieceRun
+returns-2 c =
     let l = c .before .loop in
-    let a = c .before .before .before .before .before .before .args in
-    let e = sym (through-end (a .bytes .now) (l .at) (record { state = l .s; stage = l .stage; memory = l .log; written = l .written }) (l .carry) (l .held) (c .loop-test .left)) ∙ l .inv .3 in
-    (ap movedTo e, (ap (λ (t : Through). t .carry) e, ap (λ (t : Through). t .stand .memory) e))
+    let a = c .before .before .before .before .before .args in
+    let e = sym (through-end (a .bytes .now) (record { session = l .so-far; carry = l .carry; memory = l .log; next = l .at; written = l .written }) (c .loop-test .left)) ∙ l .inv .3 in
+    (ap movedTo e, (ap (λ (t : Through). t .stand .carry) e, ap (λ (t : Through). t .stand .memory) e))
 
 pub arrive-spec : {M : Type 1} → statement M
 arrive-spec =
@@ -108,9 +131,12 @@ arrive-spec =
     part-next-line-start
     part-next-line-end
     next-line-requires
+    same-length
+    same-length-2
+    returns
     add-written
     loop-less
     loop-again
-    same-length
-    same-length-2
-    returns)
+    same-length-3
+    same-length-4
+    returns-2)

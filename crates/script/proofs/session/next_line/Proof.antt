@@ -18,13 +18,19 @@ same-length-2 c = search needs
 
 returns : tie.Need-returns
 returns c =
-    let a = c .before .before .before .before .before .before .before .before .before .before .before .before .before .args in
-    let f = c .before .before .before .before .before .before .before .before .feed in
+    let a = c .before .before .before .before .before .before .before .before .before .before .before .before .before .before .args in
+    let f = c .before .before .before .before .before .before .before .before .before .feed in
     let t = c .before .before .before .take-found in (
-      turn-same (a .s) (a .stage) (a .bytes .now) (a .log .now) (f .result) _ (f .last .0) _ (f .ensures .0) (f .ensures .1) (t .result) (t .ensures .0),
-      (f .ensures .1, memory-same (a .s) (a .stage) (a .bytes .now) (a .log .now) (f .result) _ (f .last .0) _ (f .ensures .0) (f .ensures .1) _ (t .ensures .1)),
+      turn-same (a .session) (a .bytes .now) (a .log .now) (f .result) _ (f .last .0) _ (f .ensures .0) (f .ensures .1) (t .result) (t .ensures .0),
+      (f .ensures .1, memory-same (a .session) (a .bytes .now) (a .log .now) (f .result) _ (f .last .0) _ (f .ensures .0) (f .ensures .1) _ (t .ensures .1)),
     )
 
 pub next-line-spec : {M : Type 1} → statement M
 next-line-spec =
-    tie.close (tie.spec feed-requires take-found-requires same-length same-length-2 returns)
+    tie.close
+    (tie.spec
+    feed-requires
+    take-found-requires
+    same-length
+    same-length-2
+    returns)
