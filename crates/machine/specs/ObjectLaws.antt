@@ -59,17 +59,17 @@ pub level-same : (t t′ : Tables) → ((i : ℕ) → lends t′ i ≡ lends t i
 unfolding levelIn
 level-same t t′ h e i = ap (λ (l : List ℕ). leastLeading (length l) (lends t′) (λ j. getD l j 0) i) e ∙ ap (λ (f : ℕ → Option ℕ). leastLeading (taskCount t) f (priorityOf t) i) (fun-ext h)
 
--- who lends to whom, where only the table of tasks changes
-lends-tasks : (t : Tables) (x : TaskTable) (i : ℕ) → lends (withTasks t x) i ≡ ofWait (heirAwaited t) (getD (x .waits) i none)
+-- who lends to whom, where mutexes stay as they are
+lends-kept : (t : Tables) (x : TaskTable) (c : SemTable) (i : ℕ) → lends (withTasks (withSemaphores t c) x) i ≡ ofWait (heirAwaited t) (getD (x .waits) i none)
 unfolding lends ofWait heirAwaited
-lends-tasks t x i = go (getD (x .waits) i none)
+lends-kept t x c i = go (getD (x .waits) i none)
   where
-    heir : (a : Awaited) → heirAwaited (withTasks t x) a ≡ heirAwaited t a
+    heir : (a : Awaited) → heirAwaited (withTasks (withSemaphores t c) x) a ≡ heirAwaited t a
     heir (mutexOf m) = refl
     heir (semOf k) = refl
     heir time = refl
 
-    go : (w : Option Wait) → ofWait (heirAwaited (withTasks t x)) w ≡ ofWait (heirAwaited t) w
+    go : (w : Option Wait) → ofWait (heirAwaited (withTasks (withSemaphores t c) x)) w ≡ ofWait (heirAwaited t) w
     go none = refl
     go (some w) = heir (w .on)
 
@@ -77,7 +77,7 @@ module _ (t : Tables) where
   -- a wait begins for what lends to nobody
   pub lends-begin : (r : ℕ) (w : Wait) → r < length (t .tasks .waits) → waitOf t r ≡ none → heirAwaited t (w .on) ≡ none → (i : ℕ) → lends (beginWait t r w) i ≡ lends t i
   unfolding lends ofWait
-  lends-begin r w h idle e i = lends-tasks t ((beginWait t r w) .tasks) i ∙ elim (ℕ-discrete i r) [
+  lends-begin r w h idle e i = lends-kept t ((beginWait t r w) .tasks) (t .semaphores) i ∙ elim (ℕ-discrete i r) [
     | yes q ↦ rw (q, getD-set-same (t .tasks .waits) r (some w) none h, idle) e
     | no q ↦ rw (getD-set-other (t .tasks .waits) r i (some w) none q) refl
   ]
@@ -85,8 +85,8 @@ module _ (t : Tables) where
   -- waits end that lent to nobody
   pub lends-end : (p : ℕ → Bool) (out : ℕ → ℕ) → ((i : ℕ) → p i ≡ true → lends t i ≡ none) → (i : ℕ) → lends (endWaits t p out) i ≡ lends t i
   unfolding ofWait
-  lends-end p out h i = lends-tasks t ((endWaits t p out) .tasks) i ∙ ap (ofWait (heirAwaited t)) (wait-ended t p out i)
-      ∙ elim (which (p i)) [ inl e ↦ rw e (sym (h i e)) | inr e ↦ rw e (sym (lends-tasks t (t .tasks) i)) ]
+  lends-end p out h i = lends-kept t ((endWaits t p out) .tasks) (t .semaphores) i ∙ ap (ofWait (heirAwaited t)) (wait-ended t p out i)
+      ∙ elim (which (p i)) [ inl e ↦ rw e (sym (h i e)) | inr e ↦ rw e (sym (lends-kept t (t .tasks) (t .semaphores) i)) ]
 
   -- a mutex for which nobody waits gets another owner
   pub lends-give : (m : ℕ) (o : Option ℕ) → ((i : ℕ) → awaits t (mutexOf m) i ≡ false) → (i : ℕ) → lends (give t m o) i ≡ lends t i
@@ -104,22 +104,12 @@ module _ (t : Tables) where
 
   -- semaphores lend nothing
   pub lends-semaphores : (c : SemTable) (i : ℕ) → lends (withSemaphores t c) i ≡ lends t i
-  unfolding lends ofWait heirAwaited
-  lends-semaphores c i = go (waitOf t i)
-    where
-      heir : (a : Awaited) → heirAwaited (withSemaphores t c) a ≡ heirAwaited t a
-      heir (mutexOf m) = refl
-      heir (semOf k) = refl
-      heir time = refl
-
-      go : (w : Option Wait) → ofWait (heirAwaited (withSemaphores t c)) w ≡ ofWait (heirAwaited t) w
-      go none = refl
-      go (some w) = heir (w .on)
+  lends-semaphores c i = lends-kept t (t .tasks) c i ∙ sym (lends-kept t (t .tasks) (t .semaphores) i)
 
   -- all waits are a tick older
   pub lends-age : (i : ℕ) → lends (ageAll t) i ≡ lends t i
   unfolding lends ofWait age
-  lends-age i = lends-tasks t ((ageAll t) .tasks) i ∙ ap (ofWait (heirAwaited t)) (List·getD-map age (t .tasks .waits) i none) ∙ go (waitOf t i)
+  lends-age i = lends-kept t ((ageAll t) .tasks) (t .semaphores) i ∙ ap (ofWait (heirAwaited t)) (List·getD-map age (t .tasks .waits) i none) ∙ go (waitOf t i)
     where
       go : (w : Option Wait) → ofWait (heirAwaited t) (age w) ≡ ofWait (heirAwaited t) w
       go none = refl
