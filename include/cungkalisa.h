@@ -16,7 +16,8 @@
  * library has no state of its own, takes no memory, and calls nothing but the C library's memcpy, memset and the
  * like. Calls on one record must not overlap: an interrupt that makes a step waits until the step under way is done.
  *
- * Link with libfirmware.a. Every function's behaviour is proved; docs/STATEMENTS.md says where each statement stands.
+ * Link with libfirmware.a. The behaviour of the functions that it has, declared below, is proved; docs/STATEMENTS.md says where each
+ * statement stands. The inline functions are C around them, one call each, and are tested.
  */
 #ifndef CUNGKALISA_H
 #define CUNGKALISA_H

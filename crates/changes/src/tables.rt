@@ -37,7 +37,7 @@ pub fn begin_wait(mut t: Tasks, i: u8, kind: u8, object: u8, timed: u8, due: u32
 }
 
 // The wait of task `i` ends.
-pub fn end_wait(mut t: Tasks, i: u8, outcome: u8) -> Tasks
+fn end_wait(mut t: Tasks, i: u8, outcome: u8) -> Tasks
     ensures { λ r. ⌜ r ≡ waitEnded t i outcome ⌝ }
 {
     let j = i as usize;

@@ -9,8 +9,8 @@ use lib.ListN.{length}
 use Rattle.rules.specs.State.{fresh}
 use Rattle.rules.specs.Step.{Step, task, mutex, sem, start, lock, unlock, pend, post, flush, sleep, yield, hold, free, tick, level, outcome}
 use Rattle.rules.specs.Log.{logLine, Call}
-use Rattle.rules.specs.History.{Event, toldFrom, told}
-use Rattle.rules.specs.Demand.{Demand, toldIn}
+use Rattle.rules.specs.History.{Event}
+use Rattle.rules.specs.Demand.{Demand, told}
 use Rattle.walks.specs.Walk.{taskAt}
 use Rattle.record.specs.Record.{view, pack}
 use Rattle.record.specs.SoundRecord.{soundOf}
@@ -77,12 +77,10 @@ afterRecord k (c ∷ cs) = afterRecord ((callRecord k c) .state) cs
 unfoldable pub answerRecord : State → Call → Ruled
 answerRecord k c = readOut (callRecord k c)
 
--- the theorem: over every list of calls from any sound record, which tells what the state that it stands for tells
+-- the theorem: over every list of calls from a sound record, which tells what the state that it stands for tells
 abbrev pub Demand-3-record-from : State → Type 0
-Demand-3-record-from k = (cs : List Call) → (toldFrom (toldIn (view k)) (eventsRecord k cs)) .started ≡ true
-    → Demand (toldFrom (toldIn (view k)) (eventsRecord k cs)) (answerRecord (afterRecord k cs))
+Demand-3-record-from k = (cs : List Call) → (told (view k) (eventsRecord k cs)) .started ≡ true → Demand (told (view k) (eventsRecord k cs)) (answerRecord (afterRecord k cs))
 
--- and from the fresh record with an accepted start
+-- and from the fresh record
 abbrev pub Demand-3-record : Type 0
-Demand-3-record = (cs : List Call) → (told (eventsRecord freshRecord cs)) .started ≡ true
-    → Demand (told (eventsRecord freshRecord cs)) (answerRecord (afterRecord freshRecord cs))
+Demand-3-record = Demand-3-record-from freshRecord

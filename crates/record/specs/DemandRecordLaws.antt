@@ -17,10 +17,9 @@ use Rattle.rules.specs.Log.{logLine, withRoom, Call, inRoom, call}
 use Rattle.rules.specs.Invariant.{Inv}
 use Rattle.rules.specs.StepLaws.{step-inv, fresh-inv}
 use Rattle.rules.specs.SoundLaws.{inv-sound}
-use Rattle.rules.specs.History.{toldFrom}
-use Rattle.rules.specs.Demand.{Demand, eventOf, events, after, toldIn}
+use Rattle.rules.specs.Demand.{eventOf, events, after}
 use Rattle.rules.specs.RefusalLaws.{call-by, refused-unchanged, sound-stands}
-use Rattle.rules.specs.DemandLaws.{call-inv, demand-3-from, demand-3}
+use Rattle.rules.specs.DemandLaws.{call-inv, demand-3-from}
 use Rattle.rules.specs.LinkLaws.{lock-links}
 use Rattle.task_lists.specs.TaskList.{noId, idOf}
 use Rattle.walks.specs.Walk.{taskAt}
@@ -196,25 +195,18 @@ events-pack (c ∷ cs) s I = ap (λ o. eventOf (c .made) (readOut o) ∷ eventsR
     ∙ ap (λ a. eventOf (c .made) a ∷ eventsRecord (pack ((call s c) .state)) cs) (read-out (call s c) (fair-call s I c))
     ∙ ap (λ l. eventOf (c .made) (call s c) ∷ l) (events-pack cs ((call s c) .state) (call-inv s I c))
 
--- demand 3, over every list of calls from any sound record
+-- demand 3, over every list of calls from the packing of a sound state
+demand-3-pack : (s : Model) → Inv s → Demand-3-record-from (pack s)
+demand-3-pack s I cs = rw (view-pack s I, events-pack cs s I, after-pack cs s I, answer-pack (after s cs) (after-inv cs s I)) (demand-3-from s (inv-sound s I) cs)
+
+-- and so from any sound record
 pub demand-3-record-from : (k : State) → Typed k → soundOf k ≡ true → Demand-3-record-from k
-demand-3-record-from k T e = subst (λ z. Claim z) (sound-pack k e T)
-    (λ cs. rw (events-pack cs s I, after-pack cs s I, answer-pack (after s cs) (after-inv cs s I)) (demand-3-from s (inv-sound s I) cs))
-  where
-    s : Model
-    s = view k
+demand-3-record-from k T e = subst Demand-3-record-from (sound-pack k e T) (demand-3-pack (view k) (sound-view k e))
 
-    I : Inv s
-    I = sound-view k e
-
-    Claim : State → Type 0
-    Claim z = (cs : List Call) → (toldFrom (toldIn s) (eventsRecord z cs)) .started ≡ true
-        → Demand (toldFrom (toldIn s) (eventsRecord z cs)) (answerRecord (afterRecord z cs))
-
--- and from the fresh record with an accepted start
+-- and from the fresh one with an accepted start
 pub demand-3-record : Demand-3-record
 unfolding freshRecord
-demand-3-record cs = rw (events-pack cs fresh fresh-inv, after-pack cs fresh fresh-inv, answer-pack (after fresh cs) (after-inv cs fresh fresh-inv)) (demand-3 cs)
+demand-3-record = demand-3-pack fresh fresh-inv
 
 -- every step keeps a sound record sound
 pub step-sound : (k : State) (x : Request) → soundOf k ≡ true → soundOf ((stepOf k x) .state) ≡ true

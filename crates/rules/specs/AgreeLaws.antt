@@ -20,7 +20,7 @@ use Rattle.chains.specs.Least.{leastLeading}
 use Rattle.rules.specs.Sizes.{inheriting, forever, granted, flushed}
 use Rattle.rules.specs.Tables.{Awaited, mutexOf, semOf, time, Wait, SemTable, Tables, withSemaphores, taskCount, mutexCount, priorityOf, waitOf, kindOf, ownerOf, countOf}
 use Rattle.rules.specs.Levels.{ownerAwaited, heirAwaited, ofWait, next, lends, levelIn, linksOf, waitIsFor, awaits, waitersOf, bestWaiter}
-use Rattle.rules.specs.State.{State, fresh, withTables, placed, levelOf}
+use Rattle.rules.specs.State.{State, withTables, placed, levelOf}
 use Rattle.rules.specs.Step.{Step, task, mutex, sem, start, lock, unlock, pend, post, flush, sleep, yield, hold, free, tick, level, outcome}
 use Rattle.rules.specs.Effect.{Effect, done, addTask, addMutex, give, setCount, beginWait, endWaits, ticksOf, waitFor, callerWaits, lockBy, passOn, pendBy, credit, flushOf, isDue, due, lessOne, age, ageAll, tickOf, yieldBy, effect}
 use Rattle.rules.specs.Settle.{settle, meet, dispatch, finish}
@@ -32,7 +32,7 @@ use Rattle.rules.specs.FactsLaws.{wait-ended}
 use Rattle.rules.specs.WaiterLaws.{best-is-least}
 use Rattle.rules.specs.StepLaws.{passed, called-by, caller-in}
 use Rattle.rules.specs.SoundLaws.{inv-sound}
-use Rattle.rules.specs.History.{Begun, Told, nothingTold, toldOwner, toldHeir, ofBegun, toldNext, toldLends, toldLevel, begunFor, toldBest, nowOwned, begins, endsWhere, endsOf, timeUp, oneMore, ticked, runnerOwns, handsOver, tells, nowRuns, observe}
+use Rattle.rules.specs.History.{Begun, Told, toldOwner, toldHeir, ofBegun, toldNext, toldLends, toldLevel, begunFor, toldBest, nowOwned, begins, endsWhere, endsOf, timeUp, oneMore, ticked, runnerOwns, handsOver, tells, nowRuns, observe}
 use Rattle.rules.specs.Demand.{eventOf, timeIn, begunIn, toldIn}
 use Rattle.rules.specs.RefusalLaws.{refused-number, refused-above, step-by, call-by, sound-stands}
 
@@ -74,11 +74,6 @@ tells-agrees s I = record {
   depth = refl;
   started = refl;
 }
-
--- a fresh state tells nothing
-pub fresh-tells : toldIn fresh ≡ nothingTold
-unfolding toldIn fresh nothingTold begunIn
-fresh-tells = refl
 
 -- a wait, as told and in the tables
 begun-of : (f : Awaited → Option ℕ) (w : Option Begun) → ofBegun f w ≡ ofWait f (asWait w)

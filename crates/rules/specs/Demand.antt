@@ -13,7 +13,7 @@ use Rattle.rules.specs.State.{State, fresh}
 use Rattle.rules.specs.Step.{Step, level}
 use Rattle.rules.specs.Answer.{Answer}
 use Rattle.rules.specs.Log.{logLine, Call, call}
-use Rattle.rules.specs.History.{Event, Begun, Told, tasksMade, ownPriority, toldOwner, toldHeir, toldFrom, told}
+use Rattle.rules.specs.History.{Event, Begun, Told, tasksMade, ownPriority, toldOwner, toldHeir, toldFrom}
 
 -- i waits for what j owns: for a mutex, of whatever kind
 abbrev pub WaitsFor : Told → ℕ → ℕ → Type 0
@@ -105,10 +105,14 @@ toldIn s = record {
   started = s .started;
 }
 
--- the theorem: over every list of calls from any sound state, where the state is started or the list has an accepted start
-abbrev pub Demand-3-from : State → Type 0
-Demand-3-from s = (cs : List Call) → (toldFrom (toldIn s) (events s cs)) .started ≡ true → Demand (toldFrom (toldIn s) (events s cs)) (call (after s cs))
+-- what a state and the events after it tell
+unfoldable pub told : State → List Event → Told
+told s es = toldFrom (toldIn s) es
 
--- and from a fresh state, which tells nothing
+-- the theorem: over every list of calls from a sound state, where that is started or the list has an accepted start
+abbrev pub Demand-3-from : State → Type 0
+Demand-3-from s = (cs : List Call) → (told s (events s cs)) .started ≡ true → Demand (told s (events s cs)) (call (after s cs))
+
+-- and from a fresh state
 abbrev pub Demand-3 : Type 0
-Demand-3 = (cs : List Call) → (told (events fresh cs)) .started ≡ true → Demand (told (events fresh cs)) (call (after fresh cs))
+Demand-3 = Demand-3-from fresh

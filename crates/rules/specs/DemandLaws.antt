@@ -27,10 +27,10 @@ use Rattle.rules.specs.Invariant.{Started, Inv}
 use Rattle.rules.specs.LevelLaws.{lends-ended}
 use Rattle.rules.specs.StepLaws.{caller-in, step-inv, fresh-inv}
 use Rattle.rules.specs.SoundLaws.{sound-inv, inv-sound}
-use Rattle.rules.specs.History.{Begun, Told, tasksMade, ownPriority, toldOwner, toldHeir, ofBegun, toldNext, toldLends, toldLevel, observe, toldFrom, told}
-use Rattle.rules.specs.Demand.{WaitsFor, LendsTo, Leads, to-owner, through, WaitRow, Ready, MostUrgent, levelCall, HasRoom, Demand, eventOf, events, after, toldIn, Demand-3-from, Demand-3}
+use Rattle.rules.specs.History.{Begun, Told, tasksMade, ownPriority, toldOwner, toldHeir, ofBegun, toldNext, toldLends, toldLevel, observe, toldFrom}
+use Rattle.rules.specs.Demand.{WaitsFor, LendsTo, Leads, to-owner, through, WaitRow, Ready, MostUrgent, levelCall, HasRoom, Demand, eventOf, events, after, toldIn, told, Demand-3-from, Demand-3}
 use Rattle.rules.specs.RefusalLaws.{call-by}
-use Rattle.rules.specs.AgreeLaws.{asWait, Agrees, tells-agrees, fresh-tells, next-told, lends-told, level-told, call-agrees}
+use Rattle.rules.specs.AgreeLaws.{asWait, Agrees, tells-agrees, next-told, lends-told, level-told, call-agrees}
 
 -- a call keeps a sound state sound
 pub call-inv : (s : State) → Inv s → (c : Call) → Inv ((call s c) .state)
@@ -148,13 +148,12 @@ list-sound (c ∷ cs) s h I A = list-sound cs ((call s c) .state) (observe h (ev
 
 -- demand 3, over every list of calls from any sound state
 pub demand-3-from : (s : State) → soundb s ≡ true → Demand-3-from s
+unfolding told
 demand-3-from s e cs =
     let I = sound-inv s e in
     let r = list-sound cs s (toldIn s) I (tells-agrees s I) in
-    demand (after s cs) (toldFrom (toldIn s) (events s cs)) (r .0) (r .1)
+    demand (after s cs) (told s (events s cs)) (r .0) (r .1)
 
 -- and from a fresh state with an accepted start
 pub demand-3 : Demand-3
-unfolding told
-demand-3 = subst (λ h. (cs : List Call) → (toldFrom h (events fresh cs)) .started ≡ true → Demand (toldFrom h (events fresh cs)) (call (after fresh cs)))
-    fresh-tells (demand-3-from fresh (inv-sound fresh fresh-inv))
+demand-3 = demand-3-from fresh (inv-sound fresh fresh-inv)

@@ -46,23 +46,17 @@ give t m o = withMutexes t (record { kinds = t .mutexes .kinds; owners = set (t 
 abbrev pub setCount : Tables → ℕ → ℕ → Tables
 setCount t k n = withSemaphores t (record { counts = set (t .semaphores .counts) k n; maxima = t .semaphores .maxima })
 
+-- the waits, their order and the outcomes change; priorities never do
+abbrev pub withWaits : Tables → List (Option Wait) → List ℕ → List ℕ → Tables
+withWaits t waits waiting outcomes = withTasks t (record { priorities = t .tasks .priorities; outcomes = outcomes; waits = waits; waiting = waiting })
+
 -- "A task that begins to wait gets outcome 1."
 abbrev pub beginWait : Tables → ℕ → Wait → Tables
-beginWait t r w = withTasks t (record {
-  priorities = t .tasks .priorities;
-  outcomes = set (t .tasks .outcomes) r pending;
-  waits = set (t .tasks .waits) r (some w);
-  waiting = t .tasks .waiting ++ (r ∷ []);
-})
+beginWait t r w = withWaits t (set (t .tasks .waits) r (some w)) (t .tasks .waiting ++ (r ∷ [])) (set (t .tasks .outcomes) r pending)
 
 -- the waits of the tasks that pass the test end, each with its outcome
 abbrev pub endWaits : Tables → (ℕ → Bool) → (ℕ → ℕ) → Tables
-endWaits t p out = withTasks t (record {
-  priorities = t .tasks .priorities;
-  outcomes = putWhere p out (t .tasks .outcomes);
-  waits = putWhere p (λ i. none) (t .tasks .waits);
-  waiting = keep (λ i. not (p i)) (t .tasks .waiting);
-})
+endWaits t p out = withWaits t (putWhere p (λ i. none) (t .tasks .waits)) (keep (λ i. not (p i)) (t .tasks .waiting)) (putWhere p out (t .tasks .outcomes))
 
 -- who becomes ready when those waits end
 abbrev pub ended : Tables → (ℕ → Bool) → List ℕ
@@ -133,12 +127,7 @@ age none = none
 age (some w) = some (record { on = w .on; left = lessOne (w .left) })
 
 abbrev pub ageAll : Tables → Tables
-ageAll t = withTasks t (record {
-  priorities = t .tasks .priorities;
-  outcomes = t .tasks .outcomes;
-  waits = map age (t .tasks .waits);
-  waiting = t .tasks .waiting;
-})
+ageAll t = withWaits t (map age (t .tasks .waits)) (t .tasks .waiting) (t .tasks .outcomes)
 
 -- "tick: clock plus one. Each wait begun with time t ends at the t-th tick after it"
 unfoldable pub tickOf : State → Effect

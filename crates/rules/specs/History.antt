@@ -45,9 +45,6 @@ pub record Told : Type 0 where
   -- an accepted start was in the list
   pub started : Bool
 
-unfoldable pub nothingTold : Told
-nothingTold = record { priorities = []; kinds = []; owner = λ m. none; wait = λ i. none; order = []; runs = none; depth = 0; started = false }
-
 -- how many tasks were made
 abbrev pub tasksMade : Told → ℕ
 tasksMade h = length (h .priorities)
@@ -94,6 +91,13 @@ toldBest h a = leastFirst (toldLevel h) (keep (λ i. begunFor (h .wait i) a) (h 
 abbrev pub at : {A : Type 0} → ℕ → A → (ℕ → A) → ℕ → A
 at k x f i = cond (eqb i k) x (f i)
 
+-- what was made, and what stands beside the tables
+abbrev pub toldMade : Told → List ℕ → List ℕ → Told
+toldMade h p k = record { priorities = p; kinds = k; owner = h .owner; wait = h .wait; order = h .order; runs = h .runs; depth = h .depth; started = h .started }
+
+abbrev pub toldBeside : Told → Option ℕ → ℕ → Bool → Told
+toldBeside h r d b = record { priorities = h .priorities; kinds = h .kinds; owner = h .owner; wait = h .wait; order = h .order; runs = r; depth = d; started = b }
+
 abbrev pub toldWaits : Told → (ℕ → Option Begun) → List ℕ → Told
 toldWaits h w l = record { priorities = h .priorities; kinds = h .kinds; owner = h .owner; wait = w; order = l; runs = h .runs; depth = h .depth; started = h .started }
 
@@ -135,10 +139,10 @@ handsOver h m w = nowOwned (endsOf h w) m w
 
 -- what an accepted step tells, by its answer's number
 unfoldable pub tells : Told → Step → ℕ → Told
-tells h (task p) k = record { priorities = h .priorities ++ (p ∷ []); kinds = h .kinds; owner = h .owner; wait = h .wait; order = h .order; runs = h .runs; depth = h .depth; started = h .started }
-tells h (mutex q) k = record { priorities = h .priorities; kinds = h .kinds ++ (q ∷ []); owner = h .owner; wait = h .wait; order = h .order; runs = h .runs; depth = h .depth; started = h .started }
+tells h (task p) k = toldMade h (h .priorities ++ (p ∷ [])) (h .kinds)
+tells h (mutex q) k = toldMade h (h .priorities) (h .kinds ++ (q ∷ []))
 tells h (sem count max) k = h
-tells h start k = record { priorities = h .priorities; kinds = h .kinds; owner = h .owner; wait = h .wait; order = h .order; runs = h .runs; depth = h .depth; started = true }
+tells h start k = toldBeside h (h .runs) (h .depth) true
 tells h (lock m t) k = cond (eqb k 1) (begins h (mutexOf m) t (h .runs)) (nowOwned h m (h .runs))
 tells h (unlock m) k = cond (runnerOwns h m) (handsOver h m (toldBest h (mutexOf m))) h
 tells h (pend j t) k = cond (eqb k 1) (begins h (semOf j) t (h .runs)) h
@@ -146,14 +150,14 @@ tells h (post j) k = endsOf h (toldBest h (semOf j))
 tells h (flush j) k = endsWhere h (λ i. begunFor (h .wait i) (semOf j))
 tells h (sleep t) k = begins h time t (h .runs)
 tells h yield k = h
-tells h hold k = record { priorities = h .priorities; kinds = h .kinds; owner = h .owner; wait = h .wait; order = h .order; runs = h .runs; depth = h .depth + 1; started = h .started }
-tells h free k = record { priorities = h .priorities; kinds = h .kinds; owner = h .owner; wait = h .wait; order = h .order; runs = h .runs; depth = h .depth - 1; started = h .started }
+tells h hold k = toldBeside h (h .runs) (h .depth + 1) (h .started)
+tells h free k = toldBeside h (h .runs) (h .depth - 1) (h .started)
 tells h tick k = ticked h
 tells h (level i) k = h
 tells h (outcome i) k = h
 
 abbrev pub nowRuns : Told → Option ℕ → Told
-nowRuns h r = record { priorities = h .priorities; kinds = h .kinds; owner = h .owner; wait = h .wait; order = h .order; runs = r; depth = h .depth; started = h .started }
+nowRuns h r = toldBeside h r (h .depth) (h .started)
 
 -- "A step answered 0 or 1 is accepted; any other is refused"
 unfoldable pub observe : Told → Event → Told
@@ -163,6 +167,3 @@ observe h e = nowRuns (cond (leb (e .number) 1) (tells h (e .made) (e .number)) 
 unfoldable pub toldFrom : Told → List Event → Told
 toldFrom h [] = h
 toldFrom h (e ∷ es) = toldFrom (observe h e) es
-
-unfoldable pub told : List Event → Told
-told es = toldFrom nothingTold es

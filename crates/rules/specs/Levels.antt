@@ -1,8 +1,8 @@
 -- Level, chain of a mutex, links, waiters and best waiter: all that follows from the tables.
-use mathlib.Core.List.{List, [], _∷_}
+use mathlib.Core.List.{List}
 use mathlib.Core.Bool.{Bool, false, cond}
 use mathlib.Core.Option.{Option, none, some}
-use Prim.Native.Nat.{ℕ, zero, suc}
+use Prim.Native.Nat.{ℕ}
 use lib.Dec.{eqb}
 use lib.ListN.{length}
 use Rattle.lists.specs.Test.{_and_}
@@ -51,23 +51,6 @@ chainOf t a = walk (taskCount t) (next t) (ownerAwaited t a)
 -- document 01's term "links": "the tasks on this chain other than the caller", which ends before the caller
 abbrev pub linksOf : Tables → ℕ → Awaited → ℕ
 linksOf t r a = length (before r (chainOf t a))
-
--- the objects that a chain passes, at most as many as the fuel: what is awaited, then what its owner waits for, and so on
-unfoldable pub awaitedIn : Option Wait → Option Awaited
-awaitedIn none = none
-awaitedIn (some w) = some (w .on)
-
-unfoldable pub behindOwner : Tables → Awaited → (Option Awaited → List Awaited) → Option ℕ → List Awaited
-behindOwner t a rest none = []
-behindOwner t a rest (some i) = a ∷ rest (awaitedIn (waitOf t i))
-
-unfoldable pub objectsFrom : ℕ → Tables → Option Awaited → List Awaited
-objectsFrom zero t o = []
-objectsFrom (suc f) t none = []
-objectsFrom (suc f) t (some a) = behindOwner t a (objectsFrom f t) (ownerAwaited t a)
-
-abbrev pub objectsOf : Tables → Awaited → List Awaited
-objectsOf t a = objectsFrom (taskCount t) t (some a)
 
 -- a wait of r for a would close a ring: the chain of a comes to r
 abbrev pub closesRing : Tables → ℕ → Awaited → Bool

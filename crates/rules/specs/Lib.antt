@@ -25,4 +25,5 @@ pub mod RefusalLaws
 pub mod AgreeLaws
 pub mod DemandLaws
 pub mod OutcomeLaws
+pub mod Objects
 pub mod LinkLaws

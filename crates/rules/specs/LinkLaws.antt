@@ -18,7 +18,8 @@ use Rattle.lists.specs.TableLaws.{read-any}
 use Rattle.chains.specs.Chain.{walk}
 use Rattle.chains.specs.ChainLaws.{mem-from, from-last, distinct}
 use Rattle.rules.specs.Tables.{Awaited, mutexOf, time, Wait, Tables, taskCount, mutexCount, waitOf, ownerOf}
-use Rattle.rules.specs.Levels.{ownerAwaited, ofWait, next, chainOf, linksOf, awaitedIn, behindOwner, objectsFrom, objectsOf}
+use Rattle.rules.specs.Levels.{ownerAwaited, ofWait, next, chainOf, linksOf}
+use Rattle.rules.specs.Objects.{awaitedIn, behindOwner, objectsFrom, objectsOf}
 use Rattle.rules.specs.State.{State}
 use Rattle.rules.specs.Step.{lock}
 use Rattle.rules.specs.Effect.{callerWaits, lockBy, effect}

@@ -68,24 +68,34 @@ noSuchSem s k = leb (semCount (s .tables)) k
 abbrev pub noSuchTask : State → ℕ → Bool
 noSuchTask s i = leb (taskCount (s .tables)) i
 
+-- the rows that a step begins with: of set-up only, after start only, and one that needs a caller
+abbrev pub inSetUp : State → List Row → List Row
+inSetUp s rows = (4 when s .started) ∷ rows
+
+abbrev pub onceStarted : State → List Row → List Row
+onceStarted s rows = (4 when not (s .started)) ∷ rows
+
+abbrev pub byCaller : State → List Row → List Row
+byCaller s rows = onceStarted s ((5 when noCaller s) ∷ rows)
+
 unfoldable pub refusals : State → Step → List Row
-refusals s (task p) = (4 when s .started) ∷ (7 when leb levels p) ∷ (8 when leb maxTasks (taskCount (s .tables))) ∷ []
-refusals s (mutex k) = (4 when s .started) ∷ (7 when leb kinds k) ∷ (8 when leb maxMutexes (mutexCount (s .tables))) ∷ []
-refusals s (sem count max) = (4 when s .started) ∷ (7 when eqb max 0 or ltb max count) ∷ (8 when leb maxSemaphores (semCount (s .tables))) ∷ []
-refusals s start = (4 when s .started) ∷ []
-refusals s (lock m t) = (4 when not (s .started)) ∷ (5 when noCaller s) ∷ (6 when noSuchMutex s m) ∷ (7 when not (isWaitingTime t)) ∷ (9 when callerOwns s m)
-    ∷ (3 when taken s m and eqb t 0) ∷ (11 when taken s m and held s) ∷ ringRow s m ∷ []
-refusals s (unlock m) = (4 when not (s .started)) ∷ (5 when noCaller s) ∷ (6 when noSuchMutex s m) ∷ (10 when not (callerOwns s m)) ∷ []
-refusals s (pend k t) = (4 when not (s .started)) ∷ (5 when noCaller s) ∷ (6 when noSuchSem s k) ∷ (7 when not (isWaitingTime t))
-    ∷ (3 when noCredit s k and eqb t 0) ∷ (11 when noCredit s k and held s) ∷ []
-refusals s (post k) = (4 when not (s .started)) ∷ (6 when noSuchSem s k)
-    ∷ (2 when not (someb (bestWaiter (s .tables) (semOf k))) and eqb (countOf (s .tables) k) (maximumOf (s .tables) k)) ∷ []
-refusals s (flush k) = (4 when not (s .started)) ∷ (6 when noSuchSem s k) ∷ []
-refusals s (sleep t) = (4 when not (s .started)) ∷ (5 when noCaller s) ∷ (7 when not (isSleepTime t)) ∷ (11 when held s) ∷ []
-refusals s yield = (4 when not (s .started)) ∷ (5 when noCaller s) ∷ (11 when held s) ∷ []
-refusals s hold = (4 when not (s .started)) ∷ (5 when noCaller s) ∷ (13 when leb maxHold (s .hold)) ∷ []
-refusals s free = (4 when not (s .started)) ∷ (5 when noCaller s) ∷ (13 when eqb (s .hold) 0) ∷ []
-refusals s tick = (4 when not (s .started)) ∷ []
+refusals s (task p) = inSetUp s ((7 when leb levels p) ∷ (8 when leb maxTasks (taskCount (s .tables))) ∷ [])
+refusals s (mutex k) = inSetUp s ((7 when leb kinds k) ∷ (8 when leb maxMutexes (mutexCount (s .tables))) ∷ [])
+refusals s (sem count max) = inSetUp s ((7 when eqb max 0 or ltb max count) ∷ (8 when leb maxSemaphores (semCount (s .tables))) ∷ [])
+refusals s start = inSetUp s []
+refusals s (lock m t) = byCaller s ((6 when noSuchMutex s m) ∷ (7 when not (isWaitingTime t)) ∷ (9 when callerOwns s m)
+    ∷ (3 when taken s m and eqb t 0) ∷ (11 when taken s m and held s) ∷ ringRow s m ∷ [])
+refusals s (unlock m) = byCaller s ((6 when noSuchMutex s m) ∷ (10 when not (callerOwns s m)) ∷ [])
+refusals s (pend k t) = byCaller s ((6 when noSuchSem s k) ∷ (7 when not (isWaitingTime t))
+    ∷ (3 when noCredit s k and eqb t 0) ∷ (11 when noCredit s k and held s) ∷ [])
+refusals s (post k) = onceStarted s ((6 when noSuchSem s k)
+    ∷ (2 when not (someb (bestWaiter (s .tables) (semOf k))) and eqb (countOf (s .tables) k) (maximumOf (s .tables) k)) ∷ [])
+refusals s (flush k) = onceStarted s ((6 when noSuchSem s k) ∷ [])
+refusals s (sleep t) = byCaller s ((7 when not (isSleepTime t)) ∷ (11 when held s) ∷ [])
+refusals s yield = byCaller s ((11 when held s) ∷ [])
+refusals s hold = byCaller s ((13 when leb maxHold (s .hold)) ∷ [])
+refusals s free = byCaller s ((13 when eqb (s .hold) 0) ∷ [])
+refusals s tick = onceStarted s []
 refusals s (level i) = (6 when noSuchTask s i) ∷ []
 refusals s (outcome i) = (6 when noSuchTask s i) ∷ []
 

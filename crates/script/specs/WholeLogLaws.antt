@@ -5,8 +5,8 @@ use mathlib.Core.Bool.{true}
 use mathlib.Core.Option.{Option, none, some}
 use Prim.Native.Nat.{ℕ}
 use Rattle.rules.specs.Step.{Step}
-use Rattle.rules.specs.History.{told}
-use Rattle.rules.specs.Demand.{Demand}
+use Rattle.rules.specs.Demand.{Demand, told}
+use Rattle.record.specs.Record.{view}
 use Rattle.record.specs.StepRecord.{stays}
 use Rattle.record.specs.DemandRecord.{freshRecord, inMemory, callRecord, eventsRecord, afterRecord, answerRecord}
 use Rattle.record.specs.DemandRecordLaws.{demand-3-record}
@@ -26,6 +26,6 @@ record-calls (l ∷ ls) k = record-calls ls ((lineAnswered k (stepOn l)) .state)
     first (some x) = refl
 
 -- so demand 3 holds of every script with an accepted start
-pub demand-3-script : (ls : List (List ℕ)) → (told (eventsRecord freshRecord (callsIn ls))) .started ≡ true
-    → Demand (told (eventsRecord freshRecord (callsIn ls))) (answerRecord (recordFrom freshRecord ls))
+pub demand-3-script : (ls : List (List ℕ)) → (told (view freshRecord) (eventsRecord freshRecord (callsIn ls))) .started ≡ true
+    → Demand (told (view freshRecord) (eventsRecord freshRecord (callsIn ls))) (answerRecord (recordFrom freshRecord ls))
 demand-3-script ls started = rw (record-calls ls freshRecord) (demand-3-record (callsIn ls) started)
