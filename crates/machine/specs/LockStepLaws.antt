@@ -42,7 +42,7 @@ use Rattle.machine.specs.FinishLaws.{quiet-pack, settled-finish}
 use Rattle.machine.specs.WaitStepLaws.{may-wait, time-test, best-named, best-in, best-below}
 use Rattle.record.specs.declared.Out.{Out}  -- keep
 use Rattle.record.specs.Setters.{putMutexes}  -- keep
-use Rattle.machine.specs.Machine.{passed}  -- keep
+use Rattle.machine.specs.Machine.{passedTo}  -- keep
 use Rattle.rules.specs.State.{State as Model, levelOf, placed, withTables}  -- keep
 use Rattle.rules.specs.Tables.{mutexOf, awaitedKind, awaitedObject, Tables, mutexCount, waitOf, ownerOf}  -- keep
 use Rattle.rules.specs.Answer.{stepSound}  -- keep
@@ -100,8 +100,8 @@ module _ (s : Model) (I : Inv s) where
         (λ i. flag-one (single w) (eqb w) (single-flags w (best-below s I (mutexOf m) w best)) i
         ∙ sym (member-ended (s .tables) (I .facts) (eqb w) (best-named s I (mutexOf m) w best) i))
 
-  pass-on : (m : ℕ) → m < mutexCount (s .tables) → (o : Option ℕ) → bestWaiter (s .tables) (mutexOf m) ≡ o → answerIn (passed (pack s) m (idOf o)) 0 0 ≡ ruled s (unlock m) []
-  unfolding passed pack effect passOn idOf
+  pass-on : (m : ℕ) → m < mutexCount (s .tables) → (o : Option ℕ) → bestWaiter (s .tables) (mutexOf m) ≡ o → answerIn (passedTo (pack s) m (idOf o)) 0 0 ≡ ruled s (unlock m) []
+  unfolding passedTo pack effect passOn idOf
   pass-on m h none e = on-accept s (unlock m) (passOn s m none) _ (ap (passOn s m) e) refl (given-finish m none h (facts-free (s .tables) m nobody (I .facts)) nobody)
     where
       nobody : (i : ℕ) → awaits (s .tables) (mutexOf m) i ≡ false
@@ -113,7 +113,7 @@ module _ (s : Model) (I : Inv s) where
   unfolding unlockStep pack packMutexes refusals awaitedKind awaitedObject
   unlock-pack m = by-rows s (unlock m) (on-caller s I (unlock m) _ (λ r a b run. on-row s (unlock m) _ _ refl (λ e. chosen _ _ _ e) (λ e. skipped _ _ _ e
       ∙ on-row s (unlock m) _ _ refl (λ f. skipped _ _ _ (owns-test m r run ∙ not-true (callerOwns s m) f)) (λ f. chosen _ _ _ (owns-test m r run ∙ not-false (callerOwns s m) f)
-      ∙ ap (λ w. answerIn (passed (pack s) m w) 0 0) (best-pack s (mutexOf m))
+      ∙ ap (λ w. answerIn (passedTo (pack s) m w) 0 0) (best-pack s (mutexOf m))
       ∙ pass-on m (leb-false (mutexCount (s .tables)) m e) (bestWaiter (s .tables) (mutexOf m)) refl))))
 
   -- lock: a free mutex becomes the caller's, else the caller waits

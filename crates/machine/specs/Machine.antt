@@ -226,14 +226,14 @@ lockStep k m t = calledBy k
 abbrev pub bestAt : State → ℕ → ℕ → ℕ
 bestAt k kind object = bestOf (k .waiting) (k .tasks .wait) (k .tasks .object) (k .tasks .level) kind object
 
-unfoldable pub passed : State → ℕ → ℕ → State
-passed k m w = cond (eqb w noId) (putMutexes k (ownerSet (k .mutexes) m noId))
+unfoldable pub passedTo : State → ℕ → ℕ → State
+passedTo k m w = cond (eqb w noId) (putMutexes k (ownerSet (k .mutexes) m noId))
     (dispatched (settled (putMutexes (woke k (single w) granted granted) (ownerSet (k .mutexes) m w)) (single w)))
 
 unfoldable pub unlockStep : State → ℕ → Out
 unlockStep k m = calledBy k
     (cond (leb (k .mutexes .n) m) (answerIn k 6 0)
-    (cond (eqb (ownerAt (k .mutexes) m) (k .running)) (answerIn (passed k m (bestAt k onMutex m)) 0 0) (answerIn k 10 0)))
+    (cond (eqb (ownerAt (k .mutexes) m) (k .running)) (answerIn (passedTo k m (bestAt k onMutex m)) 0 0) (answerIn k 10 0)))
 
 unfoldable pub pendStep : State → ℕ → ℕ → Out
 pendStep k j t = calledBy k

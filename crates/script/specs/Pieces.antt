@@ -53,9 +53,9 @@ underway u [] = u
 underway u (p ∷ ps) = underway (onward u p) ps
 
 -- the end, asked for with one lent memory after another: the log then, once it is answered 0
-unfoldable pub ended : Underway → List (List ℕ) → Option (List ℕ)
-ended u [] = none
-ended u (memory ∷ more) =
+unfoldable pub endedWith : Underway → List (List ℕ) → Option (List ℕ)
+endedWith u [] = none
+endedWith u (memory ∷ more) =
     let m = endRun (u .session) (u .carry) memory in
     let log = u .log ++ take (m .written) (endMemory (u .session) (u .carry) memory) in
-    cond (eqb (m .number) 0) (some log) (ended (record { session = m .session; carry = u .carry; left = u .left; log = log }) more)
+    cond (eqb (m .number) 0) (some log) (endedWith (record { session = m .session; carry = u .carry; left = u .left; log = log }) more)

@@ -27,7 +27,7 @@ use Rattle.script.specs.SessionLaws.{turn-next, stand-next, one-left, en
 use Rattle.script.specs.RoomLaws.{found-stands, one-arrival, written, turn-fits, turn-state, turn-stage, turn-log}
 use Rattle.script.specs.ToComeLaws.{all-append, end-log, all-log}
 use Rattle.script.specs.ToCome.{arrivalsLog, arrivalsState, arrivalsStage, allLog, toCome, comes}
-use Rattle.script.specs.Pieces.{Piece, Underway, starting, onward, underway, ended}
+use Rattle.script.specs.Pieces.{Piece, Underway, starting, onward, underway, endedWith}
 use Rattle.script.specs.declared.session.Session.{Session}
 
 -- a call leaves the first bytes of the carry, which it holds of a line, as they were
@@ -184,13 +184,13 @@ stop-again u memory n =
     (λ i. record { session = sym e i .session; carry = u .carry; left = u .left; log = u .log ++ take (sym e i .written) m })
     ∙ (λ i. record { session = s; carry = u .carry; left = u .left; log = append-nil (u .log) i })
 
-ended-came : (more : List (List ℕ)) (u : Underway) (log : List ℕ) → u .left ≡ [] → ended u more ≡ some log → log ≡ u .log ++ comes u []
+ended-came : (more : List (List ℕ)) (u : Underway) (log : List ℕ) → u .left ≡ [] → endedWith u more ≡ some log → log ≡ u .log ++ comes u []
 unfolding ended
 ended-came [] u log e h = none-some refl h
 ended-came (memory ∷ more) u log e h = elim (which (eqb ((endRun (u .session) (u .carry) memory) .number) 0)) [
   | inl n ↦
       sym (some-same (rw n at h)) ∙ ap (λ l. u .log ++ l) (last-came (u .session) (u .carry) memory (eqb-true _ _ n) ∙ sym (nothing-left u e))
-  | inr n ↦ ended-came more u log e (ap (λ v. ended v more) (sym (stop-again u memory (eqb-false _ _ n))) ∙ (rw n at h))
+  | inr n ↦ ended-came more u log e (ap (λ v. endedWith v more) (sym (stop-again u memory (eqb-false _ _ n))) ∙ (rw n at h))
 ]
 
 -- at first, all is still to come
@@ -206,7 +206,7 @@ moment-whole ps carry later size = sym (calls-came ps (starting carry) later) �
 
 -- so once nothing is left over and the end is answered 0, the log is the whole log, however the bytes arrived and whatever memory was lent
 pub pieces-whole : (ps : List Piece) (ends : List (List ℕ)) (carry log : List ℕ) → length carry ≡ longest
-    → (underway (starting carry) ps) .left ≡ [] → ended (underway (starting carry) ps) ends ≡ some log
+    → (underway (starting carry) ps) .left ≡ [] → endedWith (underway (starting carry) ps) ends ≡ some log
     → log ≡ wholeLog (flatten (map (λ p. p .bytes) ps))
 pieces-whole ps ends carry log size none-left answered =
     ended-came ends (underway (starting carry) ps) log none-left answered

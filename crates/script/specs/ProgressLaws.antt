@@ -17,7 +17,7 @@ use Rattle.script.specs.WholeLog.{wholeLog}
 use Rattle.script.specs.Session.{turned, Stand, turnAt, standAt, through, pieceRun, leftArrivals, endRun, endMemory, standFor}
 use Rattle.script.specs.SessionLaws.{turn-next, stand-next}
 use Rattle.script.specs.RoomLaws.{found-fits, turn-length, turn-few, turn-room}
-use Rattle.script.specs.Pieces.{Piece, lineRoom, AllRoomy, more-roomy, Underway, starting, onward, underway, ended}
+use Rattle.script.specs.Pieces.{Piece, lineRoom, AllRoomy, more-roomy, Underway, starting, onward, underway, endedWith}
 use Rattle.script.specs.PiecesLaws.{pieces-whole}
 use Rattle.script.specs.declared.session.Session.{Session}
 
@@ -124,12 +124,12 @@ roomy-left (p ∷ ps) u (more-roomy r rs) e =
     roomy-left ps (onward u p) rs (drop-of-length-le bytes far)
 
 roomy-ended : (u : Underway) (last : List ℕ) → lineRoom ≤ length last
-    → ended u (last ∷ []) ≡ some (u .log ++ take ((endRun (u .session) (u .carry) last) .written) (endMemory (u .session) (u .carry) last))
+    → endedWith u (last ∷ []) ≡ some (u .log ++ take ((endRun (u .session) (u .carry) last) .written) (endMemory (u .session) (u .carry) last))
 unfolding ended
 roomy-ended u last room = rw (eq-eqb _ _ (end-room (u .session) (u .carry) [] last room))
 
 pub roomy-whole : (ps : List Piece) (carry last : List ℕ) → length carry ≡ longest → AllRoomy ps → lineRoom ≤ length last
-    → ended (underway (starting carry) ps) (last ∷ []) ≡ some (wholeLog (flatten (map (λ p. p .bytes) ps)))
+    → endedWith (underway (starting carry) ps) (last ∷ []) ≡ some (wholeLog (flatten (map (λ p. p .bytes) ps)))
 roomy-whole ps carry last size roomy room =
     let u = underway (starting carry) ps in
     let answered = roomy-ended u last room in

@@ -21,7 +21,7 @@ use Rattle.syntax.specs.Form.{sameBytes}
 use Rattle.syntax.specs.LogLine.{headerBytes, logBytes, badBytes}
 use Rattle.script.specs.LineRun.{awaiting, running, headLog}
 use Rattle.script.specs.LineRunLaws.{line-room}
-use Rattle.script.specs.Session.{lineLog, lineTaken, takenMemory, lineIn, foundTaken, foundMemory, turned, Stand, fedAt, carryAt, lineAt, behind, turnAt, standAt}
+use Rattle.script.specs.Session.{lineLog, lineTaken, takenMemory, lineIn, foundTaken, foundMemory, turned, Stand, fedAt, carryAt, lineAt, freeOf, turnAt, standAt}
 use Rattle.script.specs.SessionLaws.{found-short}
 use Rattle.script.specs.Pieces.{lineRoom}
 use Rattle.script.specs.ToCome.{arrivalsLog, arrivalsState, arrivalsStage}
@@ -106,9 +106,9 @@ module _ (bytes : List ℕ) (x : Stand) (fits : x .written ≤ length (x .memory
   turn-fits =
       omega (
         arith,
-        found-short (x .session .state) (x .session .stage) (behind x) (lineAt bytes x),
-        found-length (x .session .state) (x .session .stage) (behind x) (lineAt bytes x),
-        length-append (take (x .written) (x .memory)) (foundMemory (x .session .state) (x .session .stage) (lineAt bytes x) (behind x)),
+        found-short (x .session .state) (x .session .stage) (freeOf x) (lineAt bytes x),
+        found-length (x .session .state) (x .session .stage) (freeOf x) (lineAt bytes x),
+        length-append (take (x .written) (x .memory)) (foundMemory (x .session .state) (x .session .stage) (lineAt bytes x) (freeOf x)),
         length-take-le (x .written) (x .memory) fits,
       )
 
@@ -118,24 +118,24 @@ module _ (bytes : List ℕ) (x : Stand) (fits : x .written ≤ length (x .memory
   turn-length =
       omega (
         arith,
-        found-length (x .session .state) (x .session .stage) (behind x) (lineAt bytes x),
-        length-append (take (x .written) (x .memory)) (foundMemory (x .session .state) (x .session .stage) (lineAt bytes x) (behind x)),
+        found-length (x .session .state) (x .session .stage) (freeOf x) (lineAt bytes x),
+        length-append (take (x .written) (x .memory)) (foundMemory (x .session .state) (x .session .stage) (lineAt bytes x) (freeOf x)),
         length-take-le (x .written) (x .memory) fits,
         length-drop (x .written) (x .memory),
       )
 
   pub turn-few : (standAt bytes x) .written ≤ x .written + lineRoom
   unfolding standAt turnAt turned
-  turn-few = omega (arith, found-few (x .session .state) (x .session .stage) (behind x) (lineAt bytes x))
+  turn-few = omega (arith, found-few (x .session .state) (x .session .stage) (freeOf x) (lineAt bytes x))
 
   pub turn-room : x .written + lineRoom ≤ length (x .memory) → (turnAt bytes x) .number ≡ 0
   unfolding turnAt turned
-  turn-room h = found-fits (x .session .state) (x .session .stage) (behind x) (lineAt bytes x) (omega (arith, length-drop (x .written) (x .memory)))
+  turn-room h = found-fits (x .session .state) (x .session .stage) (freeOf x) (lineAt bytes x) (omega (arith, length-drop (x .written) (x .memory)))
 
   module _ (n : (turnAt bytes x) .number ≡ 0) where
-    turn-stands : Stands (x .session .state) (x .session .stage) (behind x) (lineAt bytes x)
+    turn-stands : Stands (x .session .state) (x .session .stage) (freeOf x) (lineAt bytes x)
     unfolding turnAt turned
-    turn-stands = found-stands (x .session .state) (x .session .stage) (behind x) (lineAt bytes x) (one-arrival (carryAt bytes x) bytes (fedAt bytes x .found)) n
+    turn-stands = found-stands (x .session .state) (x .session .stage) (freeOf x) (lineAt bytes x) (one-arrival (carryAt bytes x) bytes (fedAt bytes x .found)) n
 
     pub turn-state : (standAt bytes x) .session .state ≡ arrivalsState (x .session .state) (x .session .stage) (lineAt bytes x)
     unfolding standAt turnAt turned
@@ -148,8 +148,8 @@ module _ (bytes : List ℕ) (x : Stand) (fits : x .written ≤ length (x .memory
     pub turn-log : written (standAt bytes x) ≡ written x ++ arrivalsLog (x .session .state) (x .session .stage) (lineAt bytes x)
     unfolding standAt turnAt turned
     turn-log =
-        let t = foundTaken (x .session .state) (x .session .stage) (lineAt bytes x) (behind x) in
-        let m = foundMemory (x .session .state) (x .session .stage) (lineAt bytes x) (behind x) in
+        let t = foundTaken (x .session .state) (x .session .stage) (lineAt bytes x) (freeOf x) in
+        let m = foundMemory (x .session .state) (x .session .stage) (lineAt bytes x) (freeOf x) in
         let size : x .written ≡ length (take (x .written) (x .memory)) = sym (length-take-le (x .written) (x .memory) fits) in
         ap (λ j. take (j + t .written) (take (x .written) (x .memory) ++ m)) size
         ∙ take-append-add (take (x .written) (x .memory)) m (t .written)

@@ -28,7 +28,7 @@ use Rattle.syntax.specs.Ascii.{ascii}
 use Rattle.syntax.specs.Form.{sameBytes, stepOn}
 use Rattle.syntax.specs.LogLine.{lineBytes, headerBytes, logBytes, badBytes}
 use Rattle.script.specs.LineRun.{awaiting, running, lineAnswered, lineFor, reported, ranLine, memoryLine, headLog, headed, memoryHead}
-use Rattle.script.specs.Session.{lineLog, lineState, lineStage, roomNumber, lineTaken, takenMemory, lineIn, foundTaken, foundMemory, turnWith, turned, Stand, carryAt, lineAt, behind, turnAt, standAt, stopAt, through, lastArrivals, leftArrivals, endRun}
+use Rattle.script.specs.Session.{lineLog, lineState, lineStage, roomNumber, lineTaken, takenMemory, lineIn, foundTaken, foundMemory, turnWith, turned, Stand, carryAt, lineAt, freeOf, turnAt, standAt, stopAt, through, lastArrivals, leftArrivals, endRun}
 use Rattle.script.specs.declared.session.Session.{Session}
 use Rattle.script.specs.declared.session.Moved.{Moved}
 use Rattle.script.specs.declared.session.Taken.{Taken}
@@ -203,10 +203,10 @@ module _ (bytes : List ℕ) (x : Stand) (more : x .next < length bytes) (t : Mov
   pub turn-short : x .written ≤ length (x .memory) → x .written + t .written ≤ length (x .memory)
   unfolding turnAt turned
   turn-short h =
-      let e : t .written ≡ (foundTaken (x .session .state) (x .session .stage) (lineAt bytes x) (behind x)) .written = ap (λ (u : Moved). u .written) is in
-      omega (arith, e, found-short (x .session .state) (x .session .stage) (behind x) (lineAt bytes x), length-drop (x .written) (x .memory))
+      let e : t .written ≡ (foundTaken (x .session .state) (x .session .stage) (lineAt bytes x) (freeOf x)) .written = ap (λ (u : Moved). u .written) is in
+      omega (arith, e, found-short (x .session .state) (x .session .stage) (freeOf x) (lineAt bytes x), length-drop (x .written) (x .memory))
 
-  module _ (c : List ℕ) (u : c ≡ carryAt bytes x) (m : List ℕ) (v : m ≡ take (x .written) (x .memory) ++ foundMemory (x .session .state) (x .session .stage) (lineAt bytes x) (behind x)) where
+  module _ (c : List ℕ) (u : c ≡ carryAt bytes x) (m : List ℕ) (v : m ≡ take (x .written) (x .memory) ++ foundMemory (x .session .state) (x .session .stage) (lineAt bytes x) (freeOf x)) where
     pub turn-again : t .number ≡ 0
         → through (length bytes) bytes (record { session = t .session; carry = c; memory = m; next = t .next; written = x .written + t .written }) ≡ through (length bytes) bytes x
     unfolding standAt
@@ -220,7 +220,7 @@ module _ (bytes : List ℕ) (x : Stand) (more : x .next < length bytes) (t : Mov
     turn-stop n =
         let other : (turnAt bytes x) .number ≡ 0 → ⊥ = λ z. n (ap (λ (w : Moved). w .number) is ∙ z) in
         let same : m ≡ x .memory =
-        v ∙ ap (λ r. take (x .written) (x .memory) ++ r) (stop-memory (x .session .state) (x .session .stage) (behind x) (lineAt bytes x) other) ∙ take-append-drop (x .written) (x .memory) in
+        v ∙ ap (λ r. take (x .written) (x .memory) ++ r) (stop-memory (x .session .state) (x .session .stage) (freeOf x) (lineAt bytes x) other) ∙ take-append-drop (x .written) (x .memory) in
         (λ i. record { stand = record { session = x .session; carry = u i; memory = same i; next = x .next; written = x .written }; number = is i .number })
         ∙ sym (through-stop bytes x more other)
 

@@ -1,6 +1,6 @@
 // The steps on mutexes and semaphores, and sleep: the refusals in the order of the table, then what the step does.
 ghost use mathlib.Core.Path.{_≡_};
-ghost use Rattle.machine.specs.Machine.{lockStep, lockWaits, passed, unlockStep, pendStep, creditStep, postStep, flushStep, sleepStep};
+ghost use Rattle.machine.specs.Machine.{lockStep, lockWaits, passedTo, unlockStep, pendStep, creditStep, postStep, flushStep, sleepStep};
 use crate::answers;
 use crate::refusals;
 use changes::objects;
@@ -66,7 +66,7 @@ pub fn lock(mut s: State, m: u32, time: u32) -> Out
 
 // Ownership passes to `w`, or the mutex becomes free.
 fn pass(mut s: State, m: u8, w: u8) -> State
-    ensures { λ r. ⌜ r ≡ passed s m w ⌝ }
+    ensures { λ r. ⌜ r ≡ passedTo s m w ⌝ }
 {
     let mutexes = objects::set_owner(s.mutexes, m, w);
     if w == NONE {

@@ -66,16 +66,16 @@ module _ (b : ℕ) where
     ]
 
     -- a text with no b, where its last byte makes one piece of `last`
-    pub pieces-whole : ((c : ℕ) → onFirst c last ≡ (c ∷ []) ∷ []) → (l : List ℕ) → 0 < length l → length l ≤ length (upTo b l) → pieces b last l ≡ upTo b l ∷ []
+    pub pieces-one : ((c : ℕ) → onFirst c last ≡ (c ∷ []) ∷ []) → (l : List ℕ) → 0 < length l → length l ≤ length (upTo b l) → pieces b last l ≡ upTo b l ∷ []
     unfolding upTo pieces
-    pieces-whole one [] p h = absurd (omega arith)
-    pieces-whole one (c ∷ []) p h = elim (which (eqb c b)) [
+    pieces-one one [] p h = absurd (omega arith)
+    pieces-one one (c ∷ []) p h = elim (which (eqb c b)) [
       | inl e ↦ absurd (let g = rw e at h in omega arith)
       | inr e ↦ rw e (one c)
     ]
-    pieces-whole one (c ∷ d ∷ ds) p h = elim (which (eqb c b)) [
+    pieces-one one (c ∷ d ∷ ds) p h = elim (which (eqb c b)) [
       | inl e ↦ absurd (let g = rw e at h in omega arith)
-      | inr e ↦ let g = rw e at h in rw (e, pieces-whole one (d ∷ ds) (omega arith) (omega arith))
+      | inr e ↦ let g = rw e at h in rw (e, pieces-one one (d ∷ ds) (omega arith) (omega arith))
     ]
 
     -- the same for the text from a place on
@@ -87,7 +87,7 @@ module _ (b : ℕ) where
           pieces-cut (drop at l) (omega (arith, length-drop at l)) ∙ rw (drop-drop (suc n) at l, e)
 
       pub pieces-last : ((c : ℕ) → onFirst c last ≡ (c ∷ []) ∷ []) → at < length l → length l ≤ findFrom b l at → pieces b last (drop at l) ≡ upTo b (drop at l) ∷ []
-      pieces-last one k h = pieces-whole one (drop at l) (omega (arith, length-drop at l)) (omega (arith, length-drop at l))
+      pieces-last one k h = pieces-one one (drop at l) (omega (arith, length-drop at l)) (omega (arith, length-drop at l))
 
   joined-first : (c : ℕ) (ps : List (List ℕ)) → joined b (onFirst c ps) ≡ c ∷ joined b ps
   unfolding joined behind

@@ -6,7 +6,7 @@ use Prim.Native.Nat.{ℕ, _+_, _-_, _≤_}
 use native.Mathlib.Omega.{arith}
 use lib.ListN.{length, take, drop}
 use borrow.Rule.Slice.PartMut.{same-len-mid}
-use Rattle.script.specs.Session.{foundMemory, turned, Stand, fedAt, carryAt, lineAt, behind, turnAt, movedTo, Through, through, pieceRun}
+use Rattle.script.specs.Session.{foundMemory, turned, Stand, fedAt, carryAt, lineAt, freeOf, turnAt, movedTo, Through, through, pieceRun}
 use Rattle.script.specs.SessionLaws.{rest-part, rest-back, turn-on, turn-short, turn-again, turn-stop, through-end}
 use Rattle.script.proofs.session.arrive.Statement.{statement}
 use Rattle.script.proofs.session.arrive.Tie as tie
@@ -59,7 +59,7 @@ turn-is c =
 memory-is : (c : Turned)
     → (let x = before-turn c in
     take (x .written) (x .memory) ++ (c .before .before .before .before .before .next-line .last .1 .1 .1 .1 .0 ++ drop (length (x .memory) - x .written) (drop (x .written) (x .memory)))
-    ≡ take (x .written) (x .memory) ++ foundMemory (x .session .state) (x .session .stage) (lineAt (bytes-in c) x) (behind x))
+    ≡ take (x .written) (x .memory) ++ foundMemory (x .session .state) (x .session .stage) (lineAt (bytes-in c) x) (freeOf x))
 memory-is c =
     let x = before-turn c in
     let n = c .before .before .before .before .before .next-line in
