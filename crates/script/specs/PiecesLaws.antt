@@ -185,7 +185,7 @@ stop-again u memory n =
     ∙ (λ i. record { session = s; carry = u .carry; left = u .left; log = append-nil (u .log) i })
 
 ended-came : (more : List (List ℕ)) (u : Underway) (log : List ℕ) → u .left ≡ [] → endedWith u more ≡ some log → log ≡ u .log ++ comes u []
-unfolding ended
+unfolding endedWith
 ended-came [] u log e h = none-some refl h
 ended-came (memory ∷ more) u log e h = elim (which (eqb ((endRun (u .session) (u .carry) memory) .number) 0)) [
   | inl n ↦

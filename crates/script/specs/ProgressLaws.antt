@@ -125,7 +125,7 @@ roomy-left (p ∷ ps) u (more-roomy r rs) e =
 
 roomy-ended : (u : Underway) (last : List ℕ) → lineRoom ≤ length last
     → endedWith u (last ∷ []) ≡ some (u .log ++ take ((endRun (u .session) (u .carry) last) .written) (endMemory (u .session) (u .carry) last))
-unfolding ended
+unfolding endedWith
 roomy-ended u last room = rw (eq-eqb _ _ (end-room (u .session) (u .carry) [] last room))
 
 pub roomy-whole : (ps : List Piece) (carry last : List ℕ) → length carry ≡ longest → AllRoomy ps → lineRoom ≤ length last
