@@ -77,7 +77,7 @@ afterRecord k (c ∷ cs) = afterRecord ((callRecord k c) .state) cs
 unfoldable pub answerRecord : State → Call → Ruled
 answerRecord k c = readOut (callRecord k c)
 
--- the theorem: over every list of calls from a sound record, which tells what the state that it stands for tells
+-- the theorem, which holds of every sound record k: over every list of calls from it; it tells what the state that it stands for tells
 abbrev pub Demand-3-record-from : State → Type 0
 Demand-3-record-from k = (cs : List Call) → (told (view k) (eventsRecord k cs)) .started ≡ true → Demand (told (view k) (eventsRecord k cs)) (answerRecord (afterRecord k cs))
 

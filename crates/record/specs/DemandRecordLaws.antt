@@ -240,7 +240,7 @@ call-stays k c T = go (c .room)
     go (some room) = by-test (λ (z : Out). 1 < numberOf (z .answer) → z .state ≡ k) (leb (length (logLine (readOut o))) room)
         (λ e. refused-stays k (requestFor (c .made)) T) (λ e h. refl)
 
--- "Links (lock answered 1 or 12)": the value is the length of the defined chain up to the caller, 1 to 15
+-- "links (lock answered 1 or 12)": the value is the length of the defined chain up to the caller, 1 to 15
 pub lock-links-record : (k : State) (m t : ℕ) → (numberOf ((stepOf k (Lock m t)) .answer) ≡ 1) ⊎ (numberOf ((stepOf k (Lock m t)) .answer) ≡ 12)
     → (r : ℕ) × (taskAt (k .running) ≡ some r) × (valueOf ((stepOf k (Lock m t)) .answer) ≡ linksOf (viewTables k) r (mutexOf m))
     × (1 ≤ valueOf ((stepOf k (Lock m t)) .answer)) × (valueOf ((stepOf k (Lock m t)) .answer) ≤ 15)

@@ -34,7 +34,7 @@ taskPlaceb t i = cond (ltb i (t .n)) (usedTaskb t i) (unusedTaskb t i)
 unfoldable pub tasksTidyb : Tasks → Bool
 tasksTidyb t = leb (t .n) taskPlaces and allb taskPlaces (taskPlaceb t)
 
--- an id is that of a task that there can be, or none
+-- an id is that of a place in the table of tasks, or none
 abbrev pub idb : ℕ → Bool
 idb x = ltb x taskPlaces or eqb x noId
 

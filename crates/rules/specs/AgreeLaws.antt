@@ -14,7 +14,7 @@ use borrow.Author.Tests.{leb-false, eqb-true, not-false, lt-leb, eq-eqb, ne-eqb}
 use Rattle.lists.specs.Test.{_and_, holds}
 use Rattle.lists.specs.Order.{keep, leastFirst}
 use Rattle.lists.specs.Table.{putWhere}
-use Rattle.lists.specs.TestLaws.{which, clash, by-test, same-test}
+use Rattle.lists.specs.TestLaws.{which, clash, by-test, none-some, same-test}
 use Rattle.lists.specs.TableLaws.{snoc-default}
 use Rattle.chains.specs.Least.{leastLeading}
 use Rattle.rules.specs.Sizes.{inheriting, forever, granted, flushed}
@@ -40,6 +40,12 @@ use Rattle.rules.specs.RefusalLaws.{refused-number, refused-above, step-
 unfoldable pub asWait : Option Begun → Option Wait
 asWait none = none
 asWait (some b) = some (record { on = b .on; left = cond (eqb (b .time) forever) none (some (b .time - b .ticks)) })
+
+-- of who does not wait no wait is told
+pub none-told : (w : Option Begun) → asWait w ≡ none → w ≡ none
+unfolding asWait
+none-told none e = refl
+none-told (some b) e = none-some e refl
 
 -- the tables match what is told
 pub record Matches (t : Tables) (h : Told) : Type 0 where

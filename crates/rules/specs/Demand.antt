@@ -44,6 +44,12 @@ pub record Ready (h : Told) (i : ℕ) : Type 0 where
   pub not-running : h .runs ≡ some i → ⊥
   pub not-waiting : h .wait i ≡ none
 
+-- r runs: a task that was made and doesn't wait
+pub record Runner (h : Told) (r : ℕ) : Type 0 where
+  pub made : r < tasksMade h
+  pub awake : h .wait r ≡ none
+  pub named : h .runs ≡ some r
+
 -- v is "the most urgent own priority among itself and all tasks whose chain of waits on inheriting mutexes leads to it"
 pub record MostUrgent (h : Told) (i v : ℕ) : Type 0 where
   pub own : v ≤ ownPriority h i
@@ -65,11 +71,11 @@ pub record Demand (h : Told) (answer : Call → Answer) : Type 0 where
       → ((answer (levelCall i room)) .number ≡ 0) × MostUrgent h i ((answer (levelCall i room)) .value)
   -- "no waits form a ring"
   pub no-ring : (x : ℕ) (l : List ℕ) → Ring h x l → ⊥
-  -- "a task runs whenever one is ready": one that was made
-  pub runs : (i : ℕ) → Ready h i → (r : ℕ) × (r < tasksMade h) × (h .runs ≡ some r)
+  -- "a task runs whenever one is ready"
+  pub runs : (i : ℕ) → Ready h i → (r : ℕ) × Runner h r
   -- "unless scheduling is held, no ready task is more urgent than the running one"
   pub urgent : h .depth ≡ 0 → (i r : ℕ) → Ready h i → h .runs ≡ some r
-      → (r < tasksMade h) × ((answer (levelCall r none)) .value ≤ (answer (levelCall i none)) .value)
+      → Runner h r × ((answer (levelCall r none)) .value ≤ (answer (levelCall i none)) .value)
 
 -- the event of a call, from its answer
 abbrev pub eventOf : Step → Answer → Event
@@ -109,7 +115,7 @@ toldIn s = record {
 unfoldable pub told : State → List Event → Told
 told s es = toldFrom (toldIn s) es
 
--- the theorem: over every list of calls from a sound state, where that is started or the list has an accepted start
+-- the theorem, which holds of every sound state s: over every list of calls from it, where it is started or the list has an accepted start
 abbrev pub Demand-3-from : State → Type 0
 Demand-3-from s = (cs : List Call) → (told s (events s cs)) .started ≡ true → Demand (told s (events s cs)) (call (after s cs))
 

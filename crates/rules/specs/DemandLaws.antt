@@ -25,12 +25,12 @@ use Rattle.rules.specs.Answer.{Answer, answered, decide, stepSound, step
 use Rattle.rules.specs.Log.{logLine, withRoom, Call, inRoom, call}
 use Rattle.rules.specs.Invariant.{Started, Inv}
 use Rattle.rules.specs.LevelLaws.{lends-ended}
-use Rattle.rules.specs.StepLaws.{caller-in, step-inv, fresh-inv}
+use Rattle.rules.specs.StepLaws.{caller-in, caller-idle, step-inv, fresh-inv}
 use Rattle.rules.specs.SoundLaws.{sound-inv, inv-sound}
 use Rattle.rules.specs.History.{Begun, Told, tasksMade, ownPriority, toldOwner, toldHeir, ofBegun, toldNext, toldLends, toldLevel, observe, toldFrom}
-use Rattle.rules.specs.Demand.{WaitsFor, LendsTo, Leads, to-owner, through, WaitRow, Ready, MostUrgent, levelCall, HasRoom, Demand, eventOf, events, after, toldIn, told, Demand-3-from, Demand-3}
+use Rattle.rules.specs.Demand.{WaitsFor, LendsTo, Leads, to-owner, through, WaitRow, Ready, Runner, MostUrgent, levelCall, HasRoom, Demand, eventOf, events, after, toldIn, told, Demand-3-from, Demand-3}
 use Rattle.rules.specs.RefusalLaws.{call-by}
-use Rattle.rules.specs.AgreeLaws.{asWait, Agrees, tells-agrees, next-told, lends-told, level-told, call-agrees}
+use Rattle.rules.specs.AgreeLaws.{asWait, Agrees, none-told, tells-agrees, next-told, lends-told, level-told, call-agrees}
 
 -- a call keeps a sound state sound
 pub call-inv : (s : State) → Inv s → (c : Call) → Inv ((call s c) .state)
@@ -125,17 +125,17 @@ module _ (s : State) (h : Told) (I : Inv s) (A : Agrees s h) where
     levels = λ i low room fits. subst (λ a. (a .number ≡ 0) × MostUrgent h i (a .value)) (sym (level-call i low room fits))
         (refl, subst (MostUrgent h i) (ap (λ f. f i) (level-told (A .tables))) (most-urgent i low));
     no-ring = λ x l w. no-ring (I .facts .ends x .1) (subst (λ f. From f (f x) x) (next-told (A .tables)) (row-from h x l x w));
-    runs = λ i r. (let k = S .runs i (ready-in i r) in (k .0, made (k .0) (k .1), A .runs ∙ k .1));
+    runs = λ i r. (let k = S .runs i (ready-in i r) in (k .0, runner (k .0) (k .1)));
     urgent = λ z i r q e.
-        let m = made r (sym (A .runs) ∙ e) in
-        (m, omega (arith, S .urgent (sym (A .depth) ∙ z) i r (ready-in i q) (sym (A .runs) ∙ e), value i (q .exists), value r m));
+        let u = runner r (sym (A .runs) ∙ e) in
+        (u, omega (arith, S .urgent (sym (A .depth) ∙ z) i r (ready-in i q) (sym (A .runs) ∙ e), value i (q .exists), value r (u .made)));
   }
     where
       S : Started s
       S = I .when-started (sym (A .started) ∙ began)
 
-      made : (r : ℕ) → s .running ≡ some r → r < tasksMade h
-      made r e = omega (arith, as-many, caller-in s I r e)
+      runner : (r : ℕ) → s .running ≡ some r → Runner h r
+      runner r e = record { made = omega (arith, as-many, caller-in s I r e); awake = none-told (h .wait r) (A .tables .wait r ∙ caller-idle s I r e); named = A .runs ∙ e }
 
       value : (i : ℕ) → i < tasksMade h → (call s (levelCall i none)) .value ≡ levelOf s i
       value i low = ap (λ a. a .value) (level-call i low none tt)

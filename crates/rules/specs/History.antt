@@ -1,4 +1,4 @@
--- The words of demand 3, told by the list of events alone: none of them looks at a state, nor is built from the rules' effects.
+-- The words of demand 3, told by what was told before and by events: none of them looks at a state, nor is built from the rules' effects.
 use mathlib.Core.List.{List, [], _∷_, _++_}
 use mathlib.Core.Bool.{Bool, true, false, cond, not}
 use mathlib.Core.Option.{Option, none, some}

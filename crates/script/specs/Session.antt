@@ -67,7 +67,7 @@ turnWith f t =
 unfoldable pub turned : Session → Fed → List ℕ → List ℕ → List ℕ → Moved
 turned s f carry bytes memory = turnWith f (foundTaken (s .state) (s .stage) (arrivalsOf carry bytes (f .found)) memory)
 
--- where a piece stands: the session, the carry, the lent memory, the place in the piece freeOf what was taken, and how many bytes are written
+-- where a piece stands: the session, the carry, the lent memory, the place in the piece behind what was taken, and how many bytes are written
 pub record Stand : Type 0 where
   pub session : Session
   pub carry : List ℕ
@@ -85,7 +85,7 @@ carryAt bytes x = carryAfter (x .carry) (x .session .held) bytes (x .next)
 abbrev pub lineAt : List ℕ → Stand → List Arrival
 lineAt bytes x = arrivalsOf (carryAt bytes x) bytes (fedAt bytes x .found)
 
--- the memory freeOf what is written
+-- the memory behind what is written
 abbrev pub freeOf : Stand → List ℕ
 freeOf x = drop (x .written) (x .memory)
 
@@ -104,7 +104,7 @@ standAt bytes x =
       written = x .written + m .written;
     }
 
--- or without room: as before that line, but for what the carry was given of it, freeOf the bytes that it holds
+-- or without room: as before that line, but for what the carry was given of it, behind the bytes that it holds
 abbrev pub stopAt : List ℕ → Stand → Stand
 stopAt bytes x = record { session = x .session; carry = carryAt bytes x; memory = x .memory; next = x .next; written = x .written }
 

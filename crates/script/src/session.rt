@@ -16,7 +16,7 @@ pub struct Session {
 }
 
 // What a piece of the script came to: the session then, the place behind what was taken, and how many bytes of log were written. The number is 0
-// where all was taken, and 8 where the line that begins at `next` has no room for its log line: nothing of that line is done.
+// where all was taken, and 8 where the line that begins at `next`, or whose rest does, has no room for its log line: nothing of it is done.
 pub struct Moved {
     pub session: Session,
     pub next: usize,

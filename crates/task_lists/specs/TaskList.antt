@@ -11,7 +11,7 @@ use Rattle.lists.specs.Table.{pad}
 use Rattle.rules.specs.Sizes.{taskPlaces, levels}
 use Rattle.task_lists.specs.declared.TaskList.{TaskList}
 
--- how many places a list has: one for each task that there can be
+-- how many places a list has: one for each in the table of tasks
 abbrev pub places : ℕ
 places = taskPlaces
 

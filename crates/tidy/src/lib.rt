@@ -99,7 +99,7 @@ fn tasks_tidy(t: Tasks) -> bool
     true
 }
 
-// An id is that of a task that there can be, or none.
+// An id is that of a place in the table of tasks, or none.
 fn is_id(x: u8) -> bool
     ensures { λ r. ⌜ r ≡ idb x ⌝ }
 {

@@ -10,7 +10,7 @@ ghost use Rattle.chains.specs.Chain.{endsb};
 ghost use Rattle.rules.specs.Sizes.{taskPlaces};
 ghost use Rattle.walks.specs.Walk.{taskAt, nextIn, lifted, raised, chainFrom};
 
-// How many tasks there can be.
+// How many tasks a table has places for.
 pub const TASKS: usize = 16;
 
 // The same, as ids count.
