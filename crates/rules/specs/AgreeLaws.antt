@@ -1,4 +1,4 @@
--- What the list of events tells is what the state holds: the history agrees with the rules' state after every call.
+-- What is told is what the state holds: the history agrees with the rules' state after every call.
 use mathlib.Core.Path.{_≡_, refl, ap, sym, _∙_, fun-ext}
 use mathlib.Core.List.{List, [], _∷_, _++_}
 use mathlib.Core.Bool.{Bool, true, false, cond, not}
@@ -36,7 +36,7 @@ use Rattle.rules.specs.History.{Begun, Told, toldOwner, toldHeir, ofBegu
 use Rattle.rules.specs.Demand.{eventOf, timeIn, begunIn, toldIn}
 use Rattle.rules.specs.RefusalLaws.{refused-number, refused-above, step-by, call-by, sound-stands}
 
--- a wait as the list tells it, in the words of the tables
+-- a wait as it is told, in the words of the tables
 unfoldable pub asWait : Option Begun → Option Wait
 asWait none = none
 asWait (some b) = some (record { on = b .on; left = cond (eqb (b .time) forever) none (some (b .time - b .ticks)) })

@@ -64,7 +64,7 @@ abbrev pub HasRoom : Option ℕ → Answer → Type 0
 HasRoom none a = Unit
 HasRoom (some room) a = length (logLine a) ≤ room
 
--- what holds where the list of events tells h, and `answer` is what a further call is answered
+-- what holds where h is what is told, and `answer` is what a further call is answered
 pub record Demand (h : Told) (answer : Call → Answer) : Type 0 where
   -- "After such a list `level` is accepted for it (its log line, where one is asked for, having room), and that value is its level."
   pub levels : (i : ℕ) → i < tasksMade h → (room : Option ℕ) → HasRoom room (answer (levelCall i none))

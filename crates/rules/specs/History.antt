@@ -20,13 +20,13 @@ pub record Event : Type 0 where
   pub number : ℕ
   pub run : Option ℕ
 
--- a wait as the list tells it: what for, the time it began with, and the accepted ticks since
+-- a wait as it is told: what for, the time it began with, and the accepted ticks since
 pub record Begun : Type 0 where
   pub on : Awaited
   pub time : ℕ
   pub ticks : ℕ
 
--- what a list of events tells
+-- what a state and the events after it tell
 pub record Told : Type 0 where
   -- "A task's own priority is the one it was made with."
   pub priorities : List ℕ
@@ -42,7 +42,7 @@ pub record Told : Type 0 where
   pub runs : Option ℕ
   -- accepted holds less accepted frees: "Scheduling is held while hold depth is above 0."
   pub depth : ℕ
-  -- an accepted start was in the list
+  -- the state was started, or an accepted start is among the events
   pub started : Bool
 
 -- how many tasks were made
@@ -163,7 +163,7 @@ nowRuns h r = toldBeside h r (h .depth) (h .started)
 unfoldable pub observe : Told → Event → Told
 observe h e = nowRuns (cond (leb (e .number) 1) (tells h (e .made) (e .number)) h) (e .run)
 
--- what a list of events tells, the first event first
+-- what is told when events follow what was told, the first event first
 unfoldable pub toldFrom : Told → List Event → Told
 toldFrom h [] = h
 toldFrom h (e ∷ es) = toldFrom (observe h e) es
