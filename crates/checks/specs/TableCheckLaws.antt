@@ -17,14 +17,14 @@ use Rattle.lists.specs.Table.{filled}
 use Rattle.lists.specs.TestLaws.{which, and-l, true-and, same-test, and-same, all-same, all-and}
 use Rattle.lists.specs.CountLaws.{eqn-at, eqn-other}
 use Rattle.rules.specs.Sizes.{taskPlaces, levels, kinds, maxTicks, granted, pending, timedOut, flushed, onMutex, onSemaphore, onTime}
-use Rattle.rules.specs.Tables.{awaitedKind, awaitedBy, Tables, taskCount, mutexCount, semCount, priorityOf, outcomeOf, waitOf, kindOf, ownerOf, countOf}
+use Rattle.rules.specs.Tables.{awaitedKind, Tables, taskCount, mutexCount, semCount, priorityOf, outcomeOf, waitOf, kindOf, ownerOf, countOf}
 use Rattle.rules.specs.Levels.{next}
 use Rattle.rules.specs.Sound.{waitCount, waitingb, placesb, unavailableb, leftb, blockedb, timedb, waitersb, timesb, existsb, ownersb, noRingb, countsb, outcomeb, outcomesb}
 use Rattle.task_lists.specs.TaskList.{noId, items, keyOf, counted}
 use Rattle.task_lists.specs.TaskListLaws.{length-counted, getD-counted}
 use Rattle.walks.specs.Walk.{taskAt, nextIn}
 use Rattle.walks.specs.WalkLaws.{task-in, ends-ext}
-use Rattle.record.specs.Record.{waitWith, ticksLeft, leftIn, waitIn, waitAt, viewTables, view}
+use Rattle.record.specs.Record.{awaitedBy, waitWith, ticksLeft, leftIn, waitIn, waitAt, viewTables, view}
 use Rattle.record.specs.SoundRecord.{tidyb, levelsb}
 use Rattle.record.specs.Reads.{ownerAt, nextAt, countAt}
 use Rattle.checks.specs.Checks.{prioritiesIn, mutexesIn, countIn, countsIn, blockedAt, timedAt, outcomeAt, taskIn, tasksIn, placeAt, placesIn, ringless, levelsIn}

@@ -1,13 +1,13 @@
 // Replays a script: standard input to standard output. All that matters is in the library `script`.
 ghost use Prim.Native.Nat.{_≤_};
 ghost use lib.ListN.{length};
-ghost use Rattle.script.specs.Pieces.{lineRoom};
+ghost use Rattle.log_lines.specs.LogLine.{lineRoom};
 use arrive::LONGEST;
 use libc::STDIN_FILENO;
 use libc::STDOUT_FILENO;
-use script::run::OVER;
 use script::session;
 use script::session::Session;
+use script_lines::run::OVER;
 use text::cut;
 
 // How many bytes of the script are read at a time, and how many of its log are written at a time. With carry and piece, and 4096 bytes for a

@@ -20,7 +20,7 @@ use Rattle.lists.specs.OrderLaws.{occ-kept, occ-dropped}
 use Rattle.lists.specs.TableLaws.{length-edit, getD-edit, length-pad, pad-set, getD-pad}
 use Rattle.rules.specs.Sizes.{taskPlaces, forever, pending, onTime}
 use Rattle.rules.specs.Step.{level, outcome}
-use Rattle.rules.specs.Effect.{beginWait, endWaits, ended, ticksOf, waitFor, due}
+use Rattle.rules.specs.Effect.{beginWait, endWaits, ended, due}
 use Rattle.rules.specs.Sound.{waitCount}
 use Rattle.rules.specs.Invariant.{Facts, Inv}
 use Rattle.rules.specs.FactsLaws.{wait-ended}
@@ -38,7 +38,7 @@ use Rattle.machine.specs.FlagLaws.{Flags, flag-one, flag-zero, setWhere,
 use Rattle.record.specs.declared.Tasks.{Tasks}  -- keep
 use Rattle.record.specs.Setters.{putWaiting, putClock, putMutexes, putSemaphores, putRunning}  -- keep
 use Rattle.rules.specs.State.{State as Model, levelOf, placed, withTables, withClock}  -- keep
-use Rattle.rules.specs.Tables.{awaitedKind, awaitedObject, Tables, Wait, Awaited, mutexOf, semOf, time, taskCount, mutexCount, semCount, priorityOf, outcomeOf, waitOf, kindOf, ownerOf, countOf, maximumOf}  -- keep
+use Rattle.rules.specs.Tables.{awaitedKind, awaitedObject, Tables, Wait, Awaited, mutexOf, semOf, time, taskCount, mutexCount, semCount, priorityOf, outcomeOf, waitOf, kindOf, ownerOf, countOf, maximumOf, ticksOf, waitFor}  -- keep
 
 -- the columns that waits change
 abbrev columns : Tasks → List ℕ → List ℕ → List ℕ → List ℕ → List ℕ → Tasks

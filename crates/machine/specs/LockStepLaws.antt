@@ -18,7 +18,7 @@ use Rattle.lists.specs.TableLaws.{getD-fill}
 use Rattle.rules.specs.Sizes.{taskPlaces, granted, onMutex, onTime}
 use Rattle.rules.specs.Levels.{chainOf, linksOf, closesRing, awaits, bestWaiter}
 use Rattle.rules.specs.Step.{lock, unlock}
-use Rattle.rules.specs.Effect.{give, beginWait, endWaits, ended, waitFor, callerWaits, lockBy, passOn, effect}
+use Rattle.rules.specs.Effect.{give, beginWait, endWaits, ended, callerWaits, lockBy, passOn, effect}
 use Rattle.rules.specs.Settle.{settle, dispatch}
 use Rattle.rules.specs.Refusal.{_when_, isWaitingTime, held, ofCaller, linksFor, callerOwns, refusals}
 use Rattle.rules.specs.Invariant.{Facts, Inv}
@@ -44,7 +44,7 @@ use Rattle.record.specs.declared.Out.{Out}  -- keep
 use Rattle.record.specs.Setters.{putMutexes}  -- keep
 use Rattle.machine.specs.Machine.{passedTo}  -- keep
 use Rattle.rules.specs.State.{State as Model, levelOf, placed, withTables}  -- keep
-use Rattle.rules.specs.Tables.{mutexOf, awaitedKind, awaitedObject, Tables, mutexCount, waitOf, ownerOf}  -- keep
+use Rattle.rules.specs.Tables.{mutexOf, awaitedKind, awaitedObject, Tables, mutexCount, waitOf, ownerOf, waitFor}  -- keep
 use Rattle.rules.specs.Answer.{stepSound}  -- keep
 
 -- an owner's id is the caller's

@@ -10,7 +10,6 @@ use native.Mathlib.Decide.{decLt}
 use lib.Dec.{eqb}
 use lib.ListN.{length, getD, List·getD-eq-default, List·getD-map, length-map}
 use borrow.Author.Tests.{not-true, not-false}
-use Rattle.lists.specs.Order.{keep}
 use Rattle.lists.specs.Table.{edit, pad, filled}
 use Rattle.lists.specs.TestLaws.{which, by-test, all-true}
 use Rattle.lists.specs.OrderLaws.{keep-all, keep-none}

@@ -14,7 +14,7 @@ use Rattle.lists.specs.TableLaws.{length-filled, getD-filled}
 use Rattle.chains.specs.Chain.{walk}
 use Rattle.rules.specs.Sizes.{taskPlaces, wordSize, granted, timedOut, onTime}
 use Rattle.rules.specs.Levels.{ownerAwaited, next, chainOf, sameAwaited, waitIsFor, awaits, waitersOf, bestWaiter}
-use Rattle.rules.specs.Effect.{isDue, due, expiry, outcomeDue, lessOne, age}
+use Rattle.rules.specs.Effect.{isDue, due, outcomeDue, lessOne, age}
 use Rattle.rules.specs.Invariant.{Left, Timed, Facts}
 use Rattle.rules.specs.LevelLaws.{wait-out}
 use Rattle.task_lists.specs.TaskList.{idOf, bestOf}
@@ -48,7 +48,7 @@ coded-wait (some w) a = refl
 
 -- the outcome of a wait that is due
 pub due-kind : (w : Option Wait) → isDue w ≡ true → cond (eqb (kindCode w) onTime) granted timedOut ≡ outcomeDue w
-unfolding kindCode awaitedKind isDue outcomeDue expiry
+unfolding kindCode awaitedKind isDue outcomeDue
 due-kind none e = absurd (clash e refl)
 due-kind (some w) e = refl
 

@@ -19,7 +19,7 @@ use Rattle.chains.specs.Chain.{on}
 use Rattle.rules.specs.Sizes.{taskPlaces, maxSemaphores, maxTicks, forever, granted, flushed, onSemaphore, onTime}
 use Rattle.rules.specs.Levels.{ownerAwaited, heirAwaited, lends, awaits, bestWaiter}
 use Rattle.rules.specs.Step.{pend, post, flush, sleep}
-use Rattle.rules.specs.Effect.{done, setCount, beginWait, endWaits, ended, ticksOf, waitFor, callerWaits, pendBy, credit, flushOf, effect}
+use Rattle.rules.specs.Effect.{done, setCount, beginWait, endWaits, ended, callerWaits, pendBy, credit, flushOf, effect}
 use Rattle.rules.specs.Settle.{settle, dispatch}
 use Rattle.rules.specs.Refusal.{_when_, isWaitingTime, isSleepTime, held, noCredit, noSuchSem, refusals}
 use Rattle.rules.specs.Sound.{waitCount}
@@ -45,7 +45,7 @@ use Rattle.record.specs.declared.State.{State}  -- keep
 use Rattle.record.specs.declared.Out.{Out}  -- keep
 use Rattle.record.specs.Setters.{putSemaphores}  -- keep
 use Rattle.rules.specs.State.{State as Model, levelOf, placed, withTables}  -- keep
-use Rattle.rules.specs.Tables.{awaitedKind, awaitedObject, Tables, Wait, Awaited, mutexOf, semOf, time, taskCount, semCount, waitOf, countOf, maximumOf}  -- keep
+use Rattle.rules.specs.Tables.{awaitedKind, awaitedObject, Tables, Wait, Awaited, mutexOf, semOf, time, taskCount, semCount, waitOf, countOf, maximumOf, ticksOf, waitFor, ownerOf}  -- keep
 use Rattle.rules.specs.Answer.{stepSound}  -- keep
 
 -- tests of times
@@ -79,7 +79,7 @@ may-wait k t o = go (eqb t 0) (ltb 0 (k .hold))
 
 module _ (s : Model) (I : Inv s) where
   -- the caller waits, and lends to nobody
-  wait-finish : (r : ℕ) (a : Awaited) (x links : ℕ) → s .running ≡ some r → Unavailable (s .tables) a → Left a (ticksOf x) → ownerAwaited (s .tables) a ≡ none
+  wait-finish : (r : ℕ) (a : Awaited) (x links : ℕ) → s .running ≡ some r → Unavailable (s .tables) a → Left a (ticksOf x) → ownerAwaited (ownerOf (s .tables)) a ≡ none
       → dispatched (blockedOn (pack s) ((pack s) .running) (awaitedKind a) (awaitedObject a) x) ≡ pack (dispatch (settle (levelOf s) ((callerWaits s r a x links) .state) []))
   unfolding callerWaits occ pack
   wait-finish r a x links run un left e =

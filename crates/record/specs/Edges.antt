@@ -9,17 +9,17 @@ use Rattle.lists.specs.Order.{keep, range, byId, place, insertTail, insertHead,
 use Rattle.lists.specs.Table.{edit, pad, filled}
 use Rattle.chains.specs.Chain.{walk, endsb}
 use Rattle.chains.specs.Least.{least, leadsTo, leastLeading}
-use Rattle.rules.specs.Tables.{awaitedKind, awaitedObject, awaitedBy}
+use Rattle.rules.specs.Tables.{awaitedKind, awaitedObject, ticksOf}
 use Rattle.rules.specs.Levels.{ownerAwaited, heirAwaited, ofWait, next, lends, levelIn, chainOf, sameAwaited, waitIsFor, waitersOf, bestWaiter}
 use Rattle.rules.specs.Step.{task, start}
-use Rattle.rules.specs.Effect.{ticksOf, callerWaits, lockBy, passOn, pendBy, credit, flushOf, isDue, expiry, outcomeDue, lessOne, age, tickOf, yieldBy, called, effect}
+use Rattle.rules.specs.Effect.{callerWaits, lockBy, passOn, pendBy, credit, flushOf, isDue, outcomeDue, lessOne, age, tickOf, yieldBy, called, effect}
 use Rattle.rules.specs.Settle.{settledReady, meet, dispatch, finish}
 use Rattle.rules.specs.Refusal.{ofCaller, linksFor, refusals, firstRow}
 use Rattle.rules.specs.Sound.{columnsb, sizesb, rangesb, clockb, waitCount, waitingb, placesb, ascendingb, unavailableb, leftb, blockedb, timedb, waitersb, timesb, existsb, ownersb, noRingb, countsb, outcomeb, outcomesb, noneIn, runsb, holdb, urgentTop, urgentb, setUpb, tablesb, soundb}
 use Rattle.rules.specs.Vectors.{Fields}
 use Rattle.task_lists.specs.TaskList.{taskListOf, idOf}
 use Rattle.walks.specs.Walk.{taskAt}
-use Rattle.record.specs.Record.{leftIn, waitWith, waitAt, viewTables, view, leftCode, kindCode, objectCode, timedCode, dueCode, packTasks, packMutexes, packSemaphores, pack}
+use Rattle.record.specs.Record.{awaitedBy, leftIn, waitWith, waitAt, viewTables, view, leftCode, kindCode, objectCode, timedCode, dueCode, packTasks, packMutexes, packSemaphores, pack}
 use Rattle.record.specs.SoundRecord.{usedTaskb, unusedTaskb, taskPlaceb, tasksTidyb, mutexPlaceb, mutexesTidyb, semPlaceb, semaphoresTidyb, taskListTidyb, tidyb, levelsb, soundOf}
 use Rattle.record.specs.StepRecord.{stepFor, numberOf, valueOf, runOf, answerFor, outFor, stays, stepOf}
 use Rattle.record.specs.DemandRecord.{freshRecord}
@@ -293,7 +293,7 @@ unfolding edgeTable givenIn dueIn played startedAt freshRecord stepOf soundOf ti
     packMutexes packSemaphores awaitedKind awaitedObject leftCode kindCode objectCode timedCode dueCode taskListOf idOf pad filled
     _and_ _or_ allb someb holds eqn occ keep range byId place insertTail insertHead insertAll stable ascb tiesb
     firstAt orElse firstFrom before inside edit walk endsb least leadsTo leastLeading ownerAwaited heirAwaited ofWait next lends levelIn chainOf
-    sameAwaited waitIsFor waitersOf bestWaiter fresh ticksOf callerWaits lockBy passOn pendBy credit flushOf isDue expiry outcomeDue lessOne age
+    sameAwaited waitIsFor waitersOf bestWaiter fresh ticksOf callerWaits lockBy passOn pendBy credit flushOf isDue outcomeDue lessOne age
     tickOf yieldBy called effect settledReady meet dispatch finish ofCaller linksFor refusals firstRow columnsb sizesb rangesb clockb waitCount
     waitingb placesb ascendingb unavailableb leftb blockedb timedb waitersb timesb existsb ownersb noRingb countsb outcomeb outcomesb noneIn runsb
     holdb urgentTop urgentb setUpb tablesb soundb decide stepSound

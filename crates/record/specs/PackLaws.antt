@@ -15,7 +15,7 @@ use Rattle.lists.specs.Table.{pad, filled}
 use Rattle.lists.specs.TestLaws.{and-l, and-r, or-true}
 use Rattle.lists.specs.TableLaws.{map-filled, pad-filled, pad-take, read-any}
 use Rattle.rules.specs.Sizes.{taskPlaces, maxMutexes, maxSemaphores, wordSize}
-use Rattle.rules.specs.Tables.{awaitedKind, awaitedBy, awaitedObject, Wait, Tables, taskCount, mutexCount, semCount}
+use Rattle.rules.specs.Tables.{awaitedKind, awaitedObject, Wait, Tables, taskCount}
 use Rattle.rules.specs.Levels.{levelIn}
 use Rattle.rules.specs.Step.{hold, level, outcome}
 use Rattle.rules.specs.Effect.{due}
@@ -24,7 +24,7 @@ use Rattle.task_lists.specs.TaskList.{places, noId, items, taskListOf, idOf}
 use Rattle.task_lists.specs.TaskListLaws.{list-of-items}
 use Rattle.walks.specs.Walk.{taskAt}
 use Rattle.walks.specs.WalkLaws.{task-in}
-use Rattle.record.specs.Record.{ticksLeft, dueAt, leftIn, waitWith, waitIn, waitAt, viewTables, view, leftCode, kindCode, objectCode, timedCode, dueCode, packTasks, packMutexes, packSemaphores, pack}
+use Rattle.record.specs.Record.{awaitedBy, ticksLeft, dueAt, leftIn, waitWith, waitIn, waitAt, viewTables, view, leftCode, kindCode, objectCode, timedCode, dueCode, packTasks, packMutexes, packSemaphores, pack}
 use Rattle.record.specs.SoundRecord.{usedTaskb, unusedTaskb, idb, mutexPlaceb, semPlaceb, taskListTidyb, tidyb, levelsb}
 use Rattle.record.specs.Setters.{putTasks, putLevel}
 use Rattle.record.specs.GoodRecord.{Typed}

@@ -8,7 +8,7 @@ use lib.ListN.{getD, take}
 use Rattle.lists.specs.Test.{someb}
 use Rattle.lists.specs.Table.{pad, filled}
 use Rattle.chains.specs.Chain.{on}
-use Rattle.rules.specs.Sizes.{taskPlaces, maxMutexes, maxSemaphores, kinds, wordSize}
+use Rattle.rules.specs.Sizes.{taskPlaces, maxMutexes, maxSemaphores, kinds, wordSize, onMutex, onSemaphore, onTime}
 use Rattle.rules.specs.Tables.{taskCount, mutexCount, semCount}
 use Rattle.rules.specs.Levels.{levelIn}
 use Rattle.rules.specs.Step.{hold, level, outcome}
@@ -20,7 +20,7 @@ use Rattle.record.specs.declared.Tasks.{Tasks}  -- keep
 use Rattle.record.specs.declared.Mutexes.{Mutexes}  -- keep
 use Rattle.record.specs.declared.Semaphores.{Semaphores}  -- keep
 use Rattle.rules.specs.State.{State as Model}  -- keep
-use Rattle.rules.specs.Tables.{Awaited, awaitedKind, awaitedObject, awaitedBy, Wait, TaskTable, MutexTable, SemTable, Tables}  -- keep
+use Rattle.rules.specs.Tables.{Awaited, mutexOf, semOf, time, awaitedKind, awaitedObject, Wait, TaskTable, MutexTable, SemTable, Tables}  -- keep
 
 -- "Wrapping add steps the clock and makes due times; wrapping subtract gives ticks left for each timed wait."
 abbrev pub ticksLeft : ℕ → ℕ → ℕ
@@ -28,6 +28,13 @@ ticksLeft due clock = (due + wordSize - clock) % wordSize
 
 abbrev pub dueAt : ℕ → ℕ → ℕ
 dueAt clock ticks = (clock + ticks) % wordSize
+
+-- what a kind of wait and an object stand for
+unfoldable pub awaitedBy : ℕ → ℕ → Option Awaited
+awaitedBy kind object =
+    cond (eqb kind onMutex) (some (mutexOf object))
+    (cond (eqb kind onSemaphore) (some (semOf object))
+    (cond (eqb kind onTime) (some time) none))
 
 -- the wait that a task's places stand for
 unfoldable pub leftIn : ℕ → ℕ → ℕ → Option ℕ

@@ -27,14 +27,14 @@ use Rattle.rules.specs.SoundLaws.{sound-inv, inv-sound}
 use Rattle.task_lists.specs.TaskList.{places, noId, taskListOf, idOf}
 use Rattle.task_lists.specs.TaskListLaws.{items-taskListOf, rest-taskListOf}
 use Rattle.walks.specs.Walk.{taskAt}
-use Rattle.record.specs.Record.{dueAt, leftIn, waitWith, waitIn, waitAt, viewTables, view, leftCode, kindCode, objectCode, timedCode, dueCode, packTasks, packMutexes, packSemaphores, pack}
+use Rattle.record.specs.Record.{awaitedBy, dueAt, leftIn, waitWith, waitIn, waitAt, viewTables, view, leftCode, kindCode, objectCode, timedCode, dueCode, packTasks, packMutexes, packSemaphores, pack}
 use Rattle.record.specs.SoundRecord.{usedTaskb, unusedTaskb, taskPlaceb, tasksTidyb, idb, mutexPlaceb, mutexesTidyb, semPlaceb, semaphoresTidyb, taskListTidyb, tidyb, levelsb, soundOf}
 use Rattle.record.specs.GoodRecord.{Typed}
 use Rattle.record.specs.PackLaws.{ticks-back, task-back, good-pack}
 use Rattle.record.specs.ReadLaws.{level-out, kind-read, object-read, timed-read, due-read, priority-read, level-read, outcome-read, owner-read, mutex-read, count-read, maximum-read, level-pack}
 use Rattle.record.specs.declared.State.{State}  -- keep
 use Rattle.rules.specs.State.{State as Model, levelOf}  -- keep
-use Rattle.rules.specs.Tables.{Awaited, mutexOf, semOf, time, awaitedKind, awaitedObject, awaitedBy, Wait, TaskTable, MutexTable, SemTable, Tables, taskCount, mutexCount, semCount, priorityOf, outcomeOf, waitOf, ownerOf, kindOf, countOf, maximumOf}  -- keep
+use Rattle.rules.specs.Tables.{Awaited, mutexOf, semOf, time, awaitedKind, awaitedObject, Wait, TaskTable, MutexTable, SemTable, Tables, taskCount, mutexCount, semCount, priorityOf, outcomeOf, waitOf, ownerOf, kindOf, countOf, maximumOf}  -- keep
 
 -- a time left is below the number of words
 left-word : (a : Awaited) (o : Option ℕ) → Left a o → (n : ℕ) → o ≡ some n → n < wordSize

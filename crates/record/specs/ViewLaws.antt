@@ -12,16 +12,16 @@ use lib.ListN.{length, getD, take, List·getD-eq-default, List·getD-map, length
 use lib.Seq.{length-take-le, getD-take}
 use borrow.Author.Tests.{ltb-true, eqb-true, lt-ltb, le-ltb, ne-eqb}
 use Rattle.lists.specs.Table.{filled}
-use Rattle.lists.specs.TestLaws.{which, by-test, and-l, and-r, or-true, all-true}
+use Rattle.lists.specs.TestLaws.{which, and-l, and-r, or-true, all-true}
 use Rattle.lists.specs.TableLaws.{length-filled, getD-filled, read-any}
 use Rattle.chains.specs.Least.{leastLeading}
 use Rattle.rules.specs.Sizes.{taskPlaces, maxMutexes, inheriting, onMutex, onSemaphore, onTime}
-use Rattle.rules.specs.Tables.{Awaited, mutexOf, semOf, time, awaitedBy, taskCount, mutexCount, semCount, priorityOf, outcomeOf, waitOf, kindOf, ownerOf, countOf, maximumOf}
+use Rattle.rules.specs.Tables.{Awaited, mutexOf, semOf, time, taskCount, mutexCount, semCount, priorityOf, outcomeOf, waitOf, kindOf, ownerOf, countOf, maximumOf}
 use Rattle.rules.specs.Levels.{ownerAwaited, heirAwaited, ofWait, next, lends, levelIn}
 use Rattle.task_lists.specs.TaskList.{noId, keyOf}
 use Rattle.walks.specs.Walk.{taskAt, nextIn, raised}
 use Rattle.walks.specs.WalkLaws.{next-in, next-out, next-agrees, leading-own, raised-ext}
-use Rattle.record.specs.Record.{waitWith, waitIn, waitAt, viewTables}
+use Rattle.record.specs.Record.{awaitedBy, waitWith, waitIn, waitAt, viewTables}
 use Rattle.record.specs.SoundRecord.{unusedTaskb, mutexPlaceb, tidyb, levelsb}
 use Rattle.record.specs.Reads.{ownerAt, kindAt, ledBy, leadsAt, nextAt, heirAt, lendsAt, newLevels, countAt, maximumAt}
 use Rattle.record.specs.GoodRecord.{Typed}
@@ -182,7 +182,7 @@ module _ (k : State) (T : Typed k) (tidy : tidyb k ≡ true) where
       rw (view-wait i h) (task-cond (eqb kind onMutex) (getD l object noId) ∙ ap (λ o. cond (eqb kind onMutex) o none) (told object) ∙ sym (after-wait kind object _ f no-sem no-time))
 
   -- the owner of an inheriting mutex
-  view-heir : (j : ℕ) → taskAt (getD (filled maxMutexes (heirAt (k .mutexes))) j noId) ≡ heirAwaited (viewTables k) (mutexOf j)
+  view-heir : (j : ℕ) → taskAt (getD (filled maxMutexes (heirAt (k .mutexes))) j noId) ≡ heirAwaited (kindOf (viewTables k)) (ownerOf (viewTables k)) (mutexOf j)
   unfolding heirAwaited
   view-heir j = elim (decLt j (k .mutexes .n)) [
     | yes h ↦ ap taskAt (getD-filled maxMutexes (heirAt (k .mutexes)) noId j (omega (arith, mutexes-fit k tidy)))
@@ -198,11 +198,11 @@ module _ (k : State) (T : Typed k) (tidy : tidyb k ≡ true) where
 
   pub next-at : (i : ℕ) → i < k .tasks .n → taskAt (nextAt (k .tasks) (k .mutexes) i) ≡ next (viewTables k) i
   unfolding next ownerAwaited
-  next-at = led-wait (k .mutexes .owner) (ownerAwaited (viewTables k)) (λ j. sym (view-owner j)) (λ j. refl) refl
+  next-at = led-wait (k .mutexes .owner) (ownerAwaited (ownerOf (viewTables k))) (λ j. sym (view-owner j)) (λ j. refl) refl
 
   pub lends-at : (i : ℕ) → i < k .tasks .n → taskAt (lendsAt (k .tasks) (k .mutexes) i) ≡ lends (viewTables k) i
   unfolding lends heirAwaited
-  lends-at = led-wait (filled maxMutexes (heirAt (k .mutexes))) (heirAwaited (viewTables k)) view-heir (λ j. refl) refl
+  lends-at = led-wait (filled maxMutexes (heirAt (k .mutexes))) (heirAwaited (kindOf (viewTables k)) (ownerOf (viewTables k))) view-heir (λ j. refl) refl
 
   -- behind the last task there is none
   leads-out : (l : List ℕ) (i : ℕ) → k .tasks .n ≤ i → leadsAt (k .tasks) l i ≡ noId

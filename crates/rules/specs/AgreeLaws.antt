@@ -2,7 +2,6 @@
 use mathlib.Core.Path.{_≡_, refl, ap, sym, _∙_, fun-ext}
 use mathlib.Core.List.{List, [], _∷_, _++_}
 use mathlib.Core.Bool.{Bool, true, false, cond, not}
-use mathlib.Core.Logic.{inl, inr}
 use mathlib.Core.Option.{Option, none, some}
 use Prim.Native.Nat.{ℕ, _+_, _-_, _<_}
 use native.Mathlib.Omega.{arith}
@@ -14,45 +13,49 @@ use borrow.Author.Tests.{leb-false, eqb-true, not-false, lt-leb, eq-eqb, ne-eqb}
 use Rattle.lists.specs.Test.{_and_, holds}
 use Rattle.lists.specs.Order.{keep, leastFirst}
 use Rattle.lists.specs.Table.{putWhere}
-use Rattle.lists.specs.TestLaws.{which, clash, by-test, none-some, same-test}
+use Rattle.lists.specs.TestLaws.{clash, by-test, none-some, same-test}
 use Rattle.lists.specs.TableLaws.{snoc-default}
 use Rattle.chains.specs.Least.{leastLeading}
-use Rattle.rules.specs.Sizes.{inheriting, forever, granted, flushed}
-use Rattle.rules.specs.Tables.{Awaited, mutexOf, semOf, time, Wait, SemTable, Tables, withSemaphores, taskCount, mutexCount, priorityOf, waitOf, kindOf, ownerOf, countOf}
+use Rattle.rules.specs.Sizes.{granted, flushed}
+use Rattle.rules.specs.Tables.{Awaited, mutexOf, semOf, time, Wait, waitFor, SemTable, Tables, withSemaphores, taskCount, mutexCount, priorityOf, waitOf, kindOf, ownerOf, countOf}
 use Rattle.rules.specs.Levels.{ownerAwaited, heirAwaited, ofWait, next, lends, levelIn, linksOf, waitIsFor, awaits, waitersOf, bestWaiter}
 use Rattle.rules.specs.State.{State, withTables, placed, levelOf}
 use Rattle.rules.specs.Step.{Step, task, mutex, sem, start, lock, unlock, pend, post, flush, sleep, yield, hold, free, tick, level, outcome}
-use Rattle.rules.specs.Effect.{Effect, done, addTask, addMutex, give, setCount, beginWait, endWaits, ticksOf, waitFor, callerWaits, lockBy, passOn, pendBy, credit, flushOf, isDue, due, lessOne, age, ageAll, tickOf, yieldBy, effect}
+use Rattle.rules.specs.Effect.{Effect, done, addTask, addMutex, give, setCount, beginWait, endWaits, callerWaits, lockBy, passOn, pendBy, credit, flushOf, isDue, due, lessOne, age, ageAll, tickOf, yieldBy, effect}
 use Rattle.rules.specs.Settle.{settle, meet, dispatch, finish}
 use Rattle.rules.specs.Refusal.{ofCaller, noCredit, callerOwns, refusals, firstRow}
 use Rattle.rules.specs.Answer.{Answer, answerWith, answered, standing}
 use Rattle.rules.specs.Log.{Call, call}
-use Rattle.rules.specs.Invariant.{Left, Timed, Facts, Inv}
+use Rattle.rules.specs.Invariant.{Facts, Inv}
 use Rattle.rules.specs.FactsLaws.{wait-ended}
 use Rattle.rules.specs.WaiterLaws.{best-is-least}
 use Rattle.rules.specs.StepLaws.{passed, called-by, caller-in}
 use Rattle.rules.specs.SoundLaws.{inv-sound}
-use Rattle.rules.specs.History.{Begun, Told, toldOwner, toldHeir, ofBegun, toldNext, toldLends, toldLevel, begunFor, toldBest, nowOwned, begins, endsWhere, endsOf, timeUp, oneMore, ticked, runnerOwns, handsOver, tells, nowRuns, observe}
-use Rattle.rules.specs.Demand.{eventOf, timeIn, begunIn, toldIn}
+use Rattle.rules.specs.History.{Told, toldNext, toldLends, toldLevel, toldBest, nowOwned, begins, endsWhere, endsOf, timeUp, ticked, runnerOwns, handsOver, tells, nowRuns, observe}
+use Rattle.rules.specs.Demand.{eventOf, toldIn}
 use Rattle.rules.specs.RefusalLaws.{refused-number, refused-above, step-by, call-by, sound-stands}
 
--- a wait as it is told, in the words of the tables
-unfoldable pub asWait : Option Begun → Option Wait
-asWait none = none
-asWait (some b) = some (record { on = b .on; left = cond (eqb (b .time) forever) none (some (b .time - b .ticks)) })
+-- so many ticks less, and a wait so many ticks after it began
+unfoldable pub since : ℕ → Option ℕ → Option ℕ
+since n none = none
+since n (some k) = some (k - n)
+
+unfoldable pub asWait : ℕ → Option Wait → Option Wait
+asWait n none = none
+asWait n (some w) = some (record { on = w .on; left = since n (w .left) })
 
 -- of who does not wait no wait is told
-pub none-told : (w : Option Begun) → asWait w ≡ none → w ≡ none
+pub none-told : (n : ℕ) (w : Option Wait) → asWait n w ≡ none → w ≡ none
 unfolding asWait
-none-told none e = refl
-none-told (some b) e = none-some e refl
+none-told n none e = refl
+none-told n (some w) e = none-some e refl
 
 -- the tables match what is told
 pub record Matches (t : Tables) (h : Told) : Type 0 where
   pub priorities : h .priorities ≡ t .tasks .priorities
   pub kinds : h .kinds ≡ t .mutexes .kinds
   pub owner : (m : ℕ) → h .owner m ≡ ownerOf t m
-  pub wait : (i : ℕ) → asWait (h .wait i) ≡ waitOf t i
+  pub wait : (i : ℕ) → asWait (h .ticks i) (h .wait i) ≡ waitOf t i
   pub order : h .order ≡ t .tasks .waiting
 
 -- the state is as told
@@ -62,95 +65,86 @@ pub record Agrees (s : State) (h : Told) : Type 0 where
   pub depth : h .depth ≡ s .hold
   pub started : h .started ≡ s .started
 
--- every sound state is as it tells
-wait-as : (w : Option Wait) → Timed w → asWait (begunIn w) ≡ w
-unfolding asWait begunIn timeIn
-wait-as none h = refl
-wait-as (some w) h = go (w .left) h
+-- every state is as it tells
+wait-as : (w : Option Wait) → asWait 0 w ≡ w
+unfolding asWait since
+wait-as none = refl
+wait-as (some w) = ap (λ l. some (record { on = w .on; left = l })) (go (w .left))
   where
-    go : (l : Option ℕ) → Left (w .on) l → asWait (begunIn (some (record { on = w .on; left = l }))) ≡ some (record { on = w .on; left = l })
-    go none h = refl
-    go (some n) h = rw (ne-eqb n forever (λ e. omega (arith, h .1))) (ap (λ k. some (record { on = w .on; left = some k })) (omega arith))
+    go : (l : Option ℕ) → since 0 l ≡ l
+    go none = refl
+    go (some k) = ap some (omega arith)
 
-pub tells-agrees : (s : State) → Inv s → Agrees s (toldIn s)
+pub tells-agrees : (s : State) → Agrees s (toldIn s)
 unfolding toldIn
-tells-agrees s I = record {
-  tables = record { priorities = refl; kinds = refl; owner = λ m. refl; wait = λ i. wait-as (waitOf (s .tables) i) (I .facts .timed i); order = refl };
+tells-agrees s = record {
+  tables = record { priorities = refl; kinds = refl; owner = λ m. refl; wait = λ i. wait-as (waitOf (s .tables) i); order = refl };
   runs = refl;
   depth = refl;
   started = refl;
 }
 
 -- a wait, as told and in the tables
-begun-of : (f : Awaited → Option ℕ) (w : Option Begun) → ofBegun f w ≡ ofWait f (asWait w)
-unfolding ofBegun ofWait asWait
-begun-of f none = refl
-begun-of f (some b) = refl
+begun-of : (f : Awaited → Option ℕ) (n : ℕ) (w : Option Wait) → ofWait f w ≡ ofWait f (asWait n w)
+unfolding ofWait asWait
+begun-of f n none = refl
+begun-of f n (some w) = refl
 
-begun-for : (a : Awaited) (w : Option Begun) → begunFor w a ≡ waitIsFor (asWait w) a
-unfolding begunFor waitIsFor asWait
-begun-for a none = refl
-begun-for a (some b) = refl
+begun-for : (a : Awaited) (n : ℕ) (w : Option Wait) → waitIsFor w a ≡ waitIsFor (asWait n w) a
+unfolding waitIsFor asWait
+begun-for a n none = refl
+begun-for a n (some w) = refl
 
 -- the wait whose time is up has one tick left
-up-due : (w : Option Begun) → timeUp w ≡ isDue (asWait w)
-unfolding timeUp isDue asWait holds _and_
-up-due none = refl
-up-due (some b) = go (b .time) (b .ticks)
+up-due : (n : ℕ) (w : Option Wait) → timeUp w n ≡ isDue (asWait n w)
+unfolding timeUp isDue asWait holds since
+up-due n none = refl
+up-due n (some w) = go (w .left)
   where
-    go : (t n : ℕ) → not (eqb t forever) and eqb (n + 1) t ≡ holds (cond (eqb t forever) none (some (t - n))) 1
-    go t n = elim (which (eqb t forever)) [
-      | inl e ↦ rw e refl
-      | inr e ↦ rw e (same-test _ _ (λ q. eq-eqb (t - n) 1 (omega (arith, eqb-true (n + 1) t q))) (λ q. eq-eqb (n + 1) t (omega (arith, eqb-true (t - n) 1 q))))
-    ]
+    go : (l : Option ℕ) → holds l (n + 1) ≡ holds (since n l) 1
+    go none = refl
+    go (some k) = same-test _ _ (λ q. eq-eqb (k - n) 1 (omega (arith, eqb-true k (n + 1) q))) (λ q. eq-eqb k (n + 1) (omega (arith, eqb-true (k - n) 1 q)))
 
-more-less : (w : Option Begun) → asWait (oneMore w) ≡ age (asWait w)
-unfolding oneMore age asWait lessOne
-more-less none = refl
-more-less (some b) = ap (λ l. some (record { on = b .on; left = l })) (go (b .time) (b .ticks))
+more-less : (n : ℕ) (w : Option Wait) → asWait (n + 1) w ≡ age (asWait n w)
+unfolding age asWait lessOne since
+more-less n none = refl
+more-less n (some w) = ap (λ l. some (record { on = w .on; left = l })) (go (w .left))
   where
-    go : (t n : ℕ) → cond (eqb t forever) none (some (t - (n + 1))) ≡ lessOne (cond (eqb t forever) none (some (t - n)))
-    go t n = elim (which (eqb t forever)) [ inl e ↦ rw e refl | inr e ↦ rw e (ap some (omega arith)) ]
+    go : (l : Option ℕ) → since (n + 1) l ≡ lessOne (since n l)
+    go none = refl
+    go (some k) = ap some (omega arith)
 
 module _ {t : Tables} {h : Told} (A : Matches t h) where
-  -- whom each wait leads to, where the same is told of what is awaited
-  led-told : (f g : Awaited → Option ℕ) → ((a : Awaited) → f a ≡ g a) → (i : ℕ) → ofBegun f (h .wait i) ≡ ofWait g (waitOf t i)
-  led-told f g same i = (begun-of f (h .wait i) ∙ ap (ofWait f) (A .wait i) ∙ ap (λ k. ofWait k (waitOf t i)) (fun-ext same))
+  -- whom each wait leads to
+  led-told : (f : Awaited → Option ℕ) (i : ℕ) → ofWait f (h .wait i) ≡ ofWait f (waitOf t i)
+  led-told f i = begun-of f (h .ticks i) (h .wait i) ∙ ap (ofWait f) (A .wait i)
 
   pub next-told : toldNext h ≡ next t
-  unfolding toldNext next toldOwner ownerAwaited
-  next-told = fun-ext (led-told (toldOwner h) (ownerAwaited t) same)
-    where
-      same : (a : Awaited) → toldOwner h a ≡ ownerAwaited t a
-      same (mutexOf m) = A .owner m
-      same (semOf k) = refl
-      same time = refl
+  unfolding toldNext next
+  next-told = fun-ext (λ i. led-told (ownerAwaited (h .owner)) i ∙ ap (λ o. ofWait (ownerAwaited o) (waitOf t i)) (fun-ext (A .owner)))
 
   pub lends-told : toldLends h ≡ lends t
-  unfolding toldLends lends toldHeir heirAwaited
-  lends-told = fun-ext (led-told (toldHeir h) (heirAwaited t) same)
-    where
-      same : (a : Awaited) → toldHeir h a ≡ heirAwaited t a
-      same (mutexOf m) = ap (λ k. cond (eqb (getD k m 0) inheriting) (h .owner m) none) (A .kinds) ∙ ap (λ o. cond (eqb (kindOf t m) inheriting) o none) (A .owner m)
-      same (semOf k) = refl
-      same time = refl
+  unfolding toldLends lends
+  lends-told = fun-ext (λ i. led-told (heirAwaited (λ m. getD (h .kinds) m 0) (h .owner)) i
+      ∙ (ap (λ k. ofWait (heirAwaited (λ m. getD k m 0) (h .owner)) (waitOf t i)) (A .kinds)
+      ∙ ap (λ o. ofWait (heirAwaited (kindOf t) o) (waitOf t i)) (fun-ext (A .owner))))
 
   pub level-told : toldLevel h ≡ levelIn t
   unfolding toldLevel levelIn
   level-told = ap (λ p. leastLeading (length p) (toldLends h) (λ i. getD p i 0)) (A .priorities) ∙ ap (λ l. leastLeading (taskCount t) l (priorityOf t)) lends-told
 
-  for-told : (a : Awaited) → (λ i. begunFor (h .wait i) a) ≡ awaits t a
-  for-told a = fun-ext (λ i. begun-for a (h .wait i) ∙ ap (λ w. waitIsFor w a) (A .wait i))
+  for-told : (a : Awaited) → (λ i. waitIsFor (h .wait i) a) ≡ awaits t a
+  for-told a = fun-ext (λ i. begun-for a (h .ticks i) (h .wait i) ∙ ap (λ w. waitIsFor w a) (A .wait i))
 
   -- the rules' search through the levels finds the waiter of least level whose wait is oldest
   best-told : Facts t → (a : Awaited) → toldBest h a ≡ bestWaiter t a
   unfolding toldBest waitersOf
-  best-told F a = ap (λ f. leastFirst f (keep (λ i. begunFor (h .wait i) a) (h .order))) level-told
+  best-told F a = ap (λ f. leastFirst f (keep (λ i. waitIsFor (h .wait i) a) (h .order))) level-told
       ∙ (ap (λ p. leastFirst (levelIn t) (keep p (h .order))) (for-told a)
       ∙ (ap (λ l. leastFirst (levelIn t) (keep (awaits t a) l)) (A .order) ∙ sym (best-is-least t F a)))
 
-  due-told : (λ i. timeUp (h .wait i)) ≡ due t
-  due-told = fun-ext (λ i. up-due (h .wait i) ∙ ap isDue (A .wait i))
+  due-told : (λ i. timeUp (h .wait i) (h .ticks i)) ≡ due t
+  due-told = fun-ext (λ i. up-due (h .ticks i) (h .wait i) ∙ ap isDue (A .wait i))
 
   -- each change, as told and in the tables
   matches-task : (p k : ℕ) → Matches (addTask t p) (tells h (task p) k)
@@ -174,7 +168,7 @@ module _ {t : Tables} {h : Told} (A : Matches t h) where
   }
 
   -- who runs, the hold depth and the phase stand beside the tables
-  matches-beside : (r : Option ℕ) (d : ℕ) (b : Bool) → Matches t (record { priorities = h .priorities; kinds = h .kinds; owner = h .owner; wait = h .wait; order = h .order; runs = r; depth = d; started = b })
+  matches-beside : (r : Option ℕ) (d : ℕ) (b : Bool) → Matches t (record { priorities = h .priorities; kinds = h .kinds; owner = h .owner; wait = h .wait; ticks = h .ticks; order = h .order; runs = r; depth = d; started = b })
   matches-beside r d b = record { priorities = A .priorities; kinds = A .kinds; owner = A .owner; wait = A .wait; order = A .order }
 
   -- of semaphores nothing is told
@@ -194,20 +188,17 @@ module _ {t : Tables} {h : Told} (A : Matches t h) where
   }
 
   matches-begin : (r : ℕ) (a : Awaited) (n : ℕ) → r < length (t .tasks .waits) → Matches (beginWait t r (waitFor a n)) (begins h a n (some r))
-  unfolding begins asWait ticksOf
+  unfolding begins
   matches-begin r a n low = record {
     priorities = A .priorities;
     kinds = A .kinds;
     owner = A .owner;
     wait = λ i. elim (ℕ-discrete i r) [
-      | yes e ↦ rw (e, eq-eqb r r refl) (begun ∙ sym (getD-set-same (t .tasks .waits) r (some (waitFor a n)) none low))
+      | yes e ↦ rw (e, eq-eqb r r refl) (wait-as (some (waitFor a n)) ∙ sym (getD-set-same (t .tasks .waits) r (some (waitFor a n)) none low))
       | no q ↦ rw (ne-eqb i r q) (A .wait i ∙ sym (getD-set-other (t .tasks .waits) r i (some (waitFor a n)) none q))
     ];
     order = ap (λ l. l ++ (r ∷ [])) (A .order);
   }
-    where
-      begun : asWait (some (record { on = a; time = n; ticks = 0 })) ≡ some (waitFor a n)
-      begun = ap (λ k. some (record { on = a; left = cond (eqb n forever) none (some k) })) (omega arith)
 
   matches-end : (p : ℕ → Bool) (out : ℕ → ℕ) → Matches (endWaits t p out) (endsWhere h p)
   unfolding endsWhere asWait
@@ -215,21 +206,21 @@ module _ {t : Tables} {h : Told} (A : Matches t h) where
     priorities = A .priorities;
     kinds = A .kinds;
     owner = A .owner;
-    wait = λ i. by-test (λ (w : Option Begun). asWait w ≡ waitOf (endWaits t p out) i) (p i)
+    wait = λ i. by-test (λ (w : Option Wait). asWait (h .ticks i) w ≡ waitOf (endWaits t p out) i) (p i)
         (λ e. sym (wait-ended t p out i ∙ rw e refl)) (λ e. A .wait i ∙ sym (wait-ended t p out i ∙ rw e refl));
     order = ap (keep (λ i. not (p i))) (A .order);
   }
 
   -- "Each wait begun with time t ends at the t-th tick after it"
   matches-tick : (out : ℕ → ℕ) → Matches (ageAll (endWaits t (due t) out)) (ticked h)
-  unfolding ticked asWait age
+  unfolding ticked endsWhere asWait age
   matches-tick out = record {
     priorities = A .priorities;
     kinds = A .kinds;
     owner = A .owner;
-    wait = λ i. ap (λ b. asWait (cond b none (oneMore (h .wait i)))) (ap (λ f. f i) due-told)
-        ∙ (by-test (λ (w : Option Begun). asWait w ≡ age (cond (due t i) none (waitOf t i))) (due t i)
-        (λ e. rw e refl) (λ e. rw e (more-less (h .wait i) ∙ ap age (A .wait i)))
+    wait = λ i. ap (λ b. asWait (h .ticks i + 1) (cond b none (h .wait i))) (ap (λ f. f i) due-told)
+        ∙ (by-test (λ (w : Option Wait). asWait (h .ticks i + 1) w ≡ age (cond (due t i) none (waitOf t i))) (due t i)
+        (λ e. rw e refl) (λ e. rw e (more-less (h .ticks i) (h .wait i) ∙ ap age (A .wait i)))
         ∙ sym (List·getD-map age (putWhere (due t) (λ j. none) (t .tasks .waits)) i none ∙ ap age (wait-ended t (due t) out i)));
     order = ap (λ p. keep (λ i. not (p i)) (h .order)) due-told ∙ ap (keep (λ i. not (due t i))) (A .order);
   }

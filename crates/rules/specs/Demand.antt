@@ -7,36 +7,24 @@ use mathlib.Core.Logic.{_⊎_}
 use mathlib.Core.Option.{Option, none, some}
 use Prim.Native.Nat.{ℕ, _≤_, _<_}
 use lib.ListN.{length}
-use Rattle.rules.specs.Sizes.{forever}
-use Rattle.rules.specs.Tables.{Wait, waitOf, ownerOf}
+use Rattle.rules.specs.Tables.{waitOf, ownerOf}
 use Rattle.rules.specs.State.{State, fresh}
 use Rattle.rules.specs.Step.{Step, level}
 use Rattle.rules.specs.Answer.{Answer}
 use Rattle.rules.specs.Log.{logLine, Call, call}
-use Rattle.rules.specs.History.{Event, Begun, Told, tasksMade, ownPriority, toldOwner, toldHeir, toldFrom}
-
--- i waits for what j owns: for a mutex, of whatever kind
-abbrev pub WaitsFor : Told → ℕ → ℕ → Type 0
-WaitsFor h i j = (b : Begun) × (h .wait i ≡ some b) × (toldOwner h (b .on) ≡ some j)
-
--- i waits for an inheriting mutex that j owns
-abbrev pub LendsTo : Told → ℕ → ℕ → Type 0
-LendsTo h i j = (b : Begun) × (h .wait i ≡ some b) × (toldHeir h (b .on) ≡ some j)
+use Rattle.rules.specs.History.{Event, Told, tasksMade, ownPriority, toldNext, toldLends, toldFrom}
 
 -- "A task's chain of waits on inheriting mutexes leads to the owner of the inheriting mutex for which it waits, and to all tasks to which
 -- that owner's such chain leads."
 pub data Leads (h : Told) : ℕ → ℕ → Type 0 where
-  to-owner : {i j : ℕ} → LendsTo h i j → Leads h i j
-  through : {i j k : ℕ} → LendsTo h i j → Leads h j k → Leads h i k
+  to-owner : {i j : ℕ} → toldLends h i ≡ some j → Leads h i j
+  through : {i j k : ℕ} → toldLends h i ≡ some j → Leads h j k → Leads h i k
 
 -- "Waits form a ring if, in some row of one or more tasks, each waits for a mutex that the next owns, and the last for one that the first
 -- owns, mutexes of every kind counted.": the row x, l, where the last waits for one that y owns
 abbrev pub WaitRow : Told → ℕ → List ℕ → ℕ → Type 0
-WaitRow h x [] y = WaitsFor h x y
-WaitRow h x (z ∷ l) y = WaitsFor h x z × WaitRow h z l y
-
-abbrev pub Ring : Told → ℕ → List ℕ → Type 0
-Ring h x l = WaitRow h x l x
+WaitRow h x [] y = toldNext h x ≡ some y
+WaitRow h x (z ∷ l) y = (toldNext h x ≡ some z) × WaitRow h z l y
 
 -- "is ready if it neither runs nor waits"
 pub record Ready (h : Told) (i : ℕ) : Type 0 where
@@ -70,7 +58,7 @@ pub record Demand (h : Told) (answer : Call → Answer) : Type 0 where
   pub levels : (i : ℕ) → i < tasksMade h → (room : Option ℕ) → HasRoom room (answer (levelCall i none))
       → ((answer (levelCall i room)) .number ≡ 0) × MostUrgent h i ((answer (levelCall i room)) .value)
   -- "no waits form a ring"
-  pub no-ring : (x : ℕ) (l : List ℕ) → Ring h x l → ⊥
+  pub no-ring : (x : ℕ) (l : List ℕ) → WaitRow h x l x → ⊥
   -- "a task runs whenever one is ready"
   pub runs : (i : ℕ) → Ready h i → (r : ℕ) × Runner h r
   -- "unless scheduling is held, no ready task is more urgent than the running one"
@@ -90,21 +78,14 @@ unfoldable pub after : State → List Call → State
 after s [] = s
 after s (c ∷ cs) = after ((call s c) .state) cs
 
--- what a state tells before the first step. A wait with n ticks left stands as one that begins now with time n.
-unfoldable pub timeIn : Option ℕ → ℕ
-timeIn none = forever
-timeIn (some n) = n
-
-unfoldable pub begunIn : Option Wait → Option Begun
-begunIn none = none
-begunIn (some w) = some (record { on = w .on; time = timeIn (w .left); ticks = 0 })
-
+-- what a state tells before the first step: a wait with n ticks left stands as one that begins now with time n
 unfoldable pub toldIn : State → Told
 toldIn s = record {
   priorities = s .tables .tasks .priorities;
   kinds = s .tables .mutexes .kinds;
   owner = ownerOf (s .tables);
-  wait = λ i. begunIn (waitOf (s .tables) i);
+  wait = waitOf (s .tables);
+  ticks = λ i. 0;
   order = s .tables .tasks .waiting;
   runs = s .running;
   depth = s .hold;

@@ -9,12 +9,12 @@ use native.Mathlib.Omega.{arith}
 use lib.ListN.{length}
 use borrow.Author.Tests.{le-leb, lt-leb}
 use Rattle.lists.specs.Count.{occ}
-use Rattle.lists.specs.TestLaws.{by-test, none-some, some-same}
+use Rattle.lists.specs.TestLaws.{by-test, some-same}
 use Rattle.lists.specs.CountLaws.{occ-opt-other, below-in}
 use Rattle.chains.specs.Chain.{From, here, on, Ended}
 use Rattle.chains.specs.ChainLaws.{no-ring, from-some}
 use Rattle.chains.specs.LeastLaws.{leading-low, leading-att}
-use Rattle.rules.specs.Tables.{Awaited, taskCount}
+use Rattle.rules.specs.Tables.{taskCount}
 use Rattle.rules.specs.State.{State, fresh, levelOf}
 use Rattle.rules.specs.Step.{level}
 use Rattle.rules.specs.Effect.{done, effect}
@@ -27,8 +27,8 @@ use Rattle.rules.specs.Invariant.{Started, Inv}
 use Rattle.rules.specs.LevelLaws.{lends-ended}
 use Rattle.rules.specs.StepLaws.{caller-in, caller-idle, step-inv, fresh-inv}
 use Rattle.rules.specs.SoundLaws.{sound-inv, inv-sound}
-use Rattle.rules.specs.History.{Begun, Told, tasksMade, ownPriority, toldOwner, toldHeir, ofBegun, toldNext, toldLends, toldLevel, observe, toldFrom}
-use Rattle.rules.specs.Demand.{WaitsFor, LendsTo, Leads, to-owner, through, WaitRow, Ready, Runner, MostUrgent, levelCall, HasRoom, Demand, eventOf, events, after, toldIn, told, Demand-3-from, Demand-3}
+use Rattle.rules.specs.History.{Told, tasksMade, ownPriority, toldNext, toldLends, toldLevel, observe, toldFrom}
+use Rattle.rules.specs.Demand.{Leads, to-owner, through, WaitRow, Ready, Runner, MostUrgent, levelCall, HasRoom, Demand, eventOf, events, after, toldIn, told, Demand-3-from, Demand-3}
 use Rattle.rules.specs.RefusalLaws.{call-by}
 use Rattle.rules.specs.AgreeLaws.{asWait, Agrees, none-told, tells-agrees, next-told, lends-told, level-told, call-agrees}
 
@@ -37,47 +37,22 @@ pub call-inv : (s : State) → Inv s → (c : Call) → Inv ((call s c) .state)
 unfolding step
 call-inv s I c = call-by (λ a. Inv (a .state)) s c (by-test (λ (a : Answer). Inv (a .state)) (soundb s) (λ e. step-inv s I (c .made)) (λ e. I)) I
 
--- whom a wait leads to, in the words of demand 3 and as the next on a chain
-module _ (w : Option Begun) (f : Awaited → Option ℕ) (j : ℕ) where
-  begun-to : (b : Begun) → w ≡ some b → f (b .on) ≡ some j → ofBegun f w ≡ some j
-  unfolding ofBegun
-  begun-to b e q = rw e q
-
-  to-begun : ofBegun f w ≡ some j → (b : Begun) × (w ≡ some b) × (f (b .on) ≡ some j)
-  unfolding ofBegun
-  to-begun e = go w refl e
-    where
-      go : (v : Option Begun) → w ≡ v → ofBegun f v ≡ some j → (b : Begun) × (w ≡ some b) × (f (b .on) ≡ some j)
-      go none q e = none-some refl e
-      go (some b) q e = (b, q, e)
-
+-- a chain in the words of demand 3, and of its definition
 module _ (h : Told) where
-  waits-next : (i j : ℕ) → WaitsFor h i j → toldNext h i ≡ some j
-  unfolding toldNext
-  waits-next i j w = begun-to (h .wait i) (toldOwner h) j (w .0) (w .1) (w .2)
-
-  lends-next : (i j : ℕ) → LendsTo h i j → toldLends h i ≡ some j
-  unfolding toldLends
-  lends-next i j w = begun-to (h .wait i) (toldHeir h) j (w .0) (w .1) (w .2)
-
-  next-lends : (i j : ℕ) → toldLends h i ≡ some j → LendsTo h i j
-  unfolding toldLends
-  next-lends i j e = to-begun (h .wait i) (toldHeir h) j e
-
   leads-from : {j i : ℕ} → Leads h j i → From (toldLends h) (some j) i
-  leads-from (to-owner {i = j} {j = i} l) = on {i = j} {k = i} (rw (lends-next j i l) here)
-  leads-from (through {i = i} {j = j} {k = k} l g) = on {i = i} {k = k} (rw (lends-next i j l) (leads-from g))
+  leads-from (to-owner {i = j} {j = i} l) = on {i = j} {k = i} (rw l here)
+  leads-from (through {i = i} {j = j} {k = k} l g) = on {i = i} {k = k} (rw l (leads-from g))
 
   from-leads : {o : Option ℕ} {i : ℕ} → From (toldLends h) o i → (j : ℕ) → o ≡ some j → (j ≡ i) ⊎ Leads h j i
   from-leads here j e = inl (sym (some-same e))
   from-leads (on {i = k} {k = i} g) j e = let r = from-some g in inr (subst (λ z. Leads h z i) (some-same e) (elim (from-leads g (r .0) (r .1)) [
-    | inl p ↦ to-owner (next-lends k i (r .1 ∙ ap some p))
-    | inr q ↦ through (next-lends k (r .0) (r .1)) q
+    | inl p ↦ to-owner (r .1 ∙ ap some p)
+    | inr q ↦ through (r .1) q
   ]))
 
   row-from : (x : ℕ) (l : List ℕ) (y : ℕ) → WaitRow h x l y → From (toldNext h) (toldNext h x) y
-  row-from x [] y w = rw (waits-next x y w) here
-  row-from x (z ∷ l) y w = rw (waits-next x z (w .0)) (on {i = z} {k = y} (row-from z l y (w .1)))
+  row-from x [] y w = rw w here
+  row-from x (z ∷ l) y w = rw (w .0) (on {i = z} {k = y} (row-from z l y (w .1)))
 
 -- `level` is accepted for a task of a sound state, and its value is the level
 level-answer : (s : State) → Inv s → (i : ℕ) → i < taskCount (s .tables) → step s (level i) ≡ answered (finish s (done s [] (levelOf s i))) 0 (levelOf s i)
@@ -116,7 +91,7 @@ module _ (s : State) (h : Told) (I : Inv s) (A : Agrees s h) where
     I .places i,
     below-in i (taskCount (s .tables)) (omega (arith, as-many, r .exists)),
     I .facts .waiting i,
-    ap waitCount (sym (A .tables .wait i) ∙ ap asWait (r .not-waiting)),
+    ap waitCount (sym (A .tables .wait i) ∙ ap (asWait (h .ticks i)) (r .not-waiting)),
     occ-opt-other (s .running) i (λ e. r .not-running (A .runs ∙ e)),
   )
 
@@ -135,7 +110,7 @@ module _ (s : State) (h : Told) (I : Inv s) (A : Agrees s h) where
       S = I .when-started (sym (A .started) ∙ began)
 
       runner : (r : ℕ) → s .running ≡ some r → Runner h r
-      runner r e = record { made = omega (arith, as-many, caller-in s I r e); awake = none-told (h .wait r) (A .tables .wait r ∙ caller-idle s I r e); named = A .runs ∙ e }
+      runner r e = record { made = omega (arith, as-many, caller-in s I r e); awake = none-told (h .ticks r) (h .wait r) (A .tables .wait r ∙ caller-idle s I r e); named = A .runs ∙ e }
 
       value : (i : ℕ) → i < tasksMade h → (call s (levelCall i none)) .value ≡ levelOf s i
       value i low = ap (λ a. a .value) (level-call i low none tt)
@@ -151,7 +126,7 @@ pub demand-3-from : (s : State) → soundb s ≡ true → Demand-3-from s
 unfolding told
 demand-3-from s e cs =
     let I = sound-inv s e in
-    let r = list-sound cs s (toldIn s) I (tells-agrees s I) in
+    let r = list-sound cs s (toldIn s) I (tells-agrees s) in
     demand (after s cs) (told s (events s cs)) (r .0) (r .1)
 
 -- and from a fresh state with an accepted start

@@ -8,8 +8,8 @@ use lib.ListN.{set}
 use Rattle.lists.specs.Test.{holds}
 use Rattle.lists.specs.Order.{keep}
 use Rattle.lists.specs.Table.{putWhere}
-use Rattle.rules.specs.Sizes.{wordSize, forever, granted, pending, timedOut, flushed}
-use Rattle.rules.specs.Tables.{Awaited, mutexOf, semOf, time, isSleep, Wait, Tables, withTasks, withMutexes, withSemaphores, taskCount, mutexCount, semCount, outcomeOf, waitOf, ownerOf, countOf}
+use Rattle.rules.specs.Sizes.{wordSize, granted, pending, timedOut, flushed}
+use Rattle.rules.specs.Tables.{Awaited, mutexOf, semOf, time, isSleep, Wait, waitFor, Tables, withTasks, withMutexes, withSemaphores, taskCount, mutexCount, semCount, outcomeOf, waitOf, ownerOf, countOf}
 use Rattle.rules.specs.Levels.{linksOf, awaits, bestWaiter}
 use Rattle.rules.specs.State.{State, withTables, withStarted, withClock, withHold, placed, levelOf}
 use Rattle.rules.specs.Step.{Step, task, mutex, sem, start, lock, unlock, pend, post, flush, sleep, yield, hold, free, tick, level, outcome}
@@ -62,13 +62,6 @@ endWaits t p out = withWaits t (putWhere p (λ i. none) (t .tasks .waits)) (keep
 abbrev pub ended : Tables → (ℕ → Bool) → List ℕ
 ended t p = keep p (t .tasks .waiting)
 
--- the ticks left of a wait begun with time t
-unfoldable pub ticksOf : ℕ → Option ℕ
-ticksOf t = cond (eqb t forever) none (some t)
-
-abbrev pub waitFor : Awaited → ℕ → Wait
-waitFor a t = record { on = a; left = ticksOf t }
-
 -- the caller r waits, and nobody runs until the dispatch
 unfoldable pub callerWaits : State → ℕ → Awaited → ℕ → ℕ → Effect
 callerWaits s r a t links = record {
@@ -110,12 +103,9 @@ abbrev pub due : Tables → ℕ → Bool
 due t i = isDue (waitOf t i)
 
 -- "outcome 20, or 0 for a sleep"
-unfoldable pub expiry : Awaited → ℕ
-expiry a = cond (isSleep a) granted timedOut
-
 unfoldable pub outcomeDue : Option Wait → ℕ
 outcomeDue none = granted
-outcomeDue (some w) = expiry (w .on)
+outcomeDue (some w) = cond (isSleep (w .on)) granted timedOut
 
 -- a tick less, for a wait that is not forever
 unfoldable pub lessOne : Option ℕ → Option ℕ

@@ -5,12 +5,11 @@ use mathlib.Core.Option.{Option, none, some}
 use Prim.Native.Nat.{ℕ, _+_, _-_}
 use lib.Dec.{leb, eqb}
 use lib.ListN.{length, getD}
-use Rattle.lists.specs.Test.{_and_, holds}
+use Rattle.lists.specs.Test.{holds}
 use Rattle.lists.specs.Order.{keep, leastFirst}
 use Rattle.chains.specs.Least.{leastLeading}
-use Rattle.rules.specs.Sizes.{inheriting, forever}
-use Rattle.rules.specs.Tables.{Awaited, mutexOf, semOf, time}
-use Rattle.rules.specs.Levels.{sameAwaited}
+use Rattle.rules.specs.Tables.{Awaited, mutexOf, semOf, time, Wait, waitFor}
+use Rattle.rules.specs.Levels.{ownerAwaited, heirAwaited, ofWait, waitIsFor}
 use Rattle.rules.specs.Step.{Step, task, mutex, sem, start, lock, unlock, pend, post, flush, sleep, yield, hold, free, tick, level, outcome}
 use Rattle.rules.specs.Refusal.{ofCaller}
 
@@ -20,12 +19,6 @@ pub record Event : Type 0 where
   pub number : ℕ
   pub run : Option ℕ
 
--- a wait as it is told: what for, the time it began with, and the accepted ticks since
-pub record Begun : Type 0 where
-  pub on : Awaited
-  pub time : ℕ
-  pub ticks : ℕ
-
 -- what a state and the events after it tell
 pub record Told : Type 0 where
   -- "A task's own priority is the one it was made with."
@@ -34,8 +27,10 @@ pub record Told : Type 0 where
   pub kinds : List ℕ
   -- "It owns a mutex from the lock or unlock that gives it the mutex until its own accepted unlock of it."
   pub owner : ℕ → Option ℕ
-  -- "It waits from a step of its own answered 1 until a step ends that wait."
-  pub wait : ℕ → Option Begun
+  -- "It waits from a step of its own answered 1 until a step ends that wait.": the wait as it began
+  pub wait : ℕ → Option Wait
+  -- the accepted ticks since it began
+  pub ticks : ℕ → ℕ
   -- who waits, in the order in which their waits began
   pub order : List ℕ
   -- "It runs while the rules name it as the task to run"
@@ -52,40 +47,20 @@ tasksMade h = length (h .priorities)
 abbrev pub ownPriority : Told → ℕ → ℕ
 ownPriority h i = getD (h .priorities) i 0
 
--- the owner of what is awaited, as told
-unfoldable pub toldOwner : Told → Awaited → Option ℕ
-toldOwner h (mutexOf m) = h .owner m
-toldOwner h (semOf k) = none
-toldOwner h time = none
-
--- who is lent the level of a task that waits for it, as told: the owner of an inheriting mutex
-unfoldable pub toldHeir : Told → Awaited → Option ℕ
-toldHeir h (mutexOf m) = cond (eqb (getD (h .kinds) m 0) inheriting) (h .owner m) none
-toldHeir h (semOf k) = none
-toldHeir h time = none
-
-unfoldable pub ofBegun : (Awaited → Option ℕ) → Option Begun → Option ℕ
-ofBegun f none = none
-ofBegun f (some b) = f (b .on)
-
 -- the owner of what i waits for, and who is lent its level
 unfoldable pub toldNext : Told → ℕ → Option ℕ
-toldNext h i = ofBegun (toldOwner h) (h .wait i)
+toldNext h i = ofWait (ownerAwaited (h .owner)) (h .wait i)
 
 unfoldable pub toldLends : Told → ℕ → Option ℕ
-toldLends h i = ofBegun (toldHeir h) (h .wait i)
+toldLends h i = ofWait (heirAwaited (λ m. getD (h .kinds) m 0) (h .owner)) (h .wait i)
 
 -- the level as the history defines it
 unfoldable pub toldLevel : Told → ℕ → ℕ
 toldLevel h = leastLeading (tasksMade h) (toldLends h) (ownPriority h)
 
-unfoldable pub begunFor : Option Begun → Awaited → Bool
-begunFor none a = false
-begunFor (some b) a = sameAwaited (b .on) a
-
 -- the best waiter: least level as the history defines it, oldest wait first
 unfoldable pub toldBest : Told → Awaited → Option ℕ
-toldBest h a = leastFirst (toldLevel h) (keep (λ i. begunFor (h .wait i) a) (h .order))
+toldBest h a = leastFirst (toldLevel h) (keep (λ i. waitIsFor (h .wait i) a) (h .order))
 
 -- f, but x at k
 abbrev pub at : {A : Type 0} → ℕ → A → (ℕ → A) → ℕ → A
@@ -93,41 +68,37 @@ at k x f i = cond (eqb i k) x (f i)
 
 -- what was made, and what stands beside the tables
 abbrev pub toldMade : Told → List ℕ → List ℕ → Told
-toldMade h p k = record { priorities = p; kinds = k; owner = h .owner; wait = h .wait; order = h .order; runs = h .runs; depth = h .depth; started = h .started }
+toldMade h p k = record { priorities = p; kinds = k; owner = h .owner; wait = h .wait; ticks = h .ticks; order = h .order; runs = h .runs; depth = h .depth; started = h .started }
 
 abbrev pub toldBeside : Told → Option ℕ → ℕ → Bool → Told
-toldBeside h r d b = record { priorities = h .priorities; kinds = h .kinds; owner = h .owner; wait = h .wait; order = h .order; runs = r; depth = d; started = b }
+toldBeside h r d b = record { priorities = h .priorities; kinds = h .kinds; owner = h .owner; wait = h .wait; ticks = h .ticks; order = h .order; runs = r; depth = d; started = b }
 
-abbrev pub toldWaits : Told → (ℕ → Option Begun) → List ℕ → Told
-toldWaits h w l = record { priorities = h .priorities; kinds = h .kinds; owner = h .owner; wait = w; order = l; runs = h .runs; depth = h .depth; started = h .started }
+abbrev pub toldWaits : Told → (ℕ → Option Wait) → (ℕ → ℕ) → List ℕ → Told
+toldWaits h w n l = record { priorities = h .priorities; kinds = h .kinds; owner = h .owner; wait = w; ticks = n; order = l; runs = h .runs; depth = h .depth; started = h .started }
 
 abbrev pub nowOwned : Told → ℕ → Option ℕ → Told
-nowOwned h m o = record { priorities = h .priorities; kinds = h .kinds; owner = at m o (h .owner); wait = h .wait; order = h .order; runs = h .runs; depth = h .depth; started = h .started }
+nowOwned h m o = record { priorities = h .priorities; kinds = h .kinds; owner = at m o (h .owner); wait = h .wait; ticks = h .ticks; order = h .order; runs = h .runs; depth = h .depth; started = h .started }
 
 -- the task that ran begins to wait
 unfoldable pub begins : Told → Awaited → ℕ → Option ℕ → Told
 begins h a t none = h
-begins h a t (some r) = toldWaits h (at r (some (record { on = a; time = t; ticks = 0 })) (h .wait)) (h .order ++ (r ∷ []))
+begins h a t (some r) = toldWaits h (at r (some (waitFor a t)) (h .wait)) (at r 0 (h .ticks)) (h .order ++ (r ∷ []))
 
 -- some waits end
 unfoldable pub endsWhere : Told → (ℕ → Bool) → Told
-endsWhere h p = toldWaits h (λ i. cond (p i) none (h .wait i)) (keep (λ i. not (p i)) (h .order))
+endsWhere h p = toldWaits h (λ i. cond (p i) none (h .wait i)) (h .ticks) (keep (λ i. not (p i)) (h .order))
 
 unfoldable pub endsOf : Told → Option ℕ → Told
 endsOf h none = h
 endsOf h (some w) = endsWhere h (eqb w)
 
--- "Each wait begun with time t ends at the t-th tick after it"
-unfoldable pub timeUp : Option Begun → Bool
-timeUp none = false
-timeUp (some b) = not (eqb (b .time) forever) and eqb (b .ticks + 1) (b .time)
-
-unfoldable pub oneMore : Option Begun → Option Begun
-oneMore none = none
-oneMore (some b) = some (record { on = b .on; time = b .time; ticks = b .ticks + 1 })
+-- "Each wait begun with time t ends at the t-th tick after it": n are the ticks before this one
+unfoldable pub timeUp : Option Wait → ℕ → Bool
+timeUp none n = false
+timeUp (some w) n = holds (w .left) (n + 1)
 
 unfoldable pub ticked : Told → Told
-ticked h = toldWaits h (λ i. cond (timeUp (h .wait i)) none (oneMore (h .wait i))) (keep (λ i. not (timeUp (h .wait i))) (h .order))
+ticked h = endsWhere (toldWaits h (h .wait) (λ i. h .ticks i + 1) (h .order)) (λ i. timeUp (h .wait i) (h .ticks i))
 
 -- the task that ran owns m: only "its own accepted unlock" ends its ownership
 abbrev pub runnerOwns : Told → ℕ → Bool
@@ -147,7 +118,7 @@ tells h (lock m t) k = cond (eqb k 1) (begins h (mutexOf m) t (h .runs)) (nowOwn
 tells h (unlock m) k = cond (runnerOwns h m) (handsOver h m (toldBest h (mutexOf m))) h
 tells h (pend j t) k = cond (eqb k 1) (begins h (semOf j) t (h .runs)) h
 tells h (post j) k = endsOf h (toldBest h (semOf j))
-tells h (flush j) k = endsWhere h (λ i. begunFor (h .wait i) (semOf j))
+tells h (flush j) k = endsWhere h (λ i. waitIsFor (h .wait i) (semOf j))
 tells h (sleep t) k = begins h time t (h .runs)
 tells h yield k = h
 tells h hold k = toldBeside h (h .runs) (h .depth + 1) (h .started)

@@ -14,11 +14,11 @@ use Rattle.lists.specs.Test.{_and_}
 use Rattle.lists.specs.TestLaws.{which, clash, by-test, none-some}
 use Rattle.lists.specs.TableLaws.{snoc-default, getD-edit}
 use Rattle.rules.specs.Sizes.{granted, pending, flushed}
-use Rattle.rules.specs.Tables.{Awaited, mutexOf, semOf, time, Wait, Tables, taskCount, outcomeOf, waitOf, ownerOf}
+use Rattle.rules.specs.Tables.{Awaited, mutexOf, semOf, time, Wait, Tables, taskCount, outcomeOf, waitOf, ownerOf, waitFor}
 use Rattle.rules.specs.Levels.{awaits, bestWaiter}
 use Rattle.rules.specs.State.{State, levelOf}
 use Rattle.rules.specs.Step.{Step, task, mutex, sem, start, lock, unlock, pend, post, flush, sleep, yield, hold, free, tick, level, outcome}
-use Rattle.rules.specs.Effect.{Effect, beginWait, endWaits, waitFor, callerWaits, lockBy, passOn, pendBy, credit, flushOf, due, outcomeDue, tickOf, yieldBy, effect}
+use Rattle.rules.specs.Effect.{Effect, beginWait, endWaits, callerWaits, lockBy, passOn, pendBy, credit, flushOf, due, outcomeDue, tickOf, yieldBy, effect}
 use Rattle.rules.specs.Settle.{settle, meet, dispatch, finish}
 use Rattle.rules.specs.Refusal.{noCredit, refusals, firstRow}
 use Rattle.rules.specs.Sound.{waitCount}

@@ -15,11 +15,11 @@ use Rattle.lists.specs.TestLaws.{which, clash, by-test, and-l, and-r, and-false
 use Rattle.lists.specs.CountLaws.{occ-append, occ-opt, below-out, in-below, below-le}
 use Rattle.chains.specs.Chain.{end, link}
 use Rattle.rules.specs.Sizes.{maxTasks, maxMutexes, maxSemaphores, levels, kinds, wordSize, maxHold, maxTicks, forever, granted, flushed}
-use Rattle.rules.specs.Tables.{Awaited, mutexOf, semOf, time, awaitedKind, isSleep, Wait, Tables, taskCount, mutexCount, semCount, outcomeOf, waitOf, ownerOf, countOf, maximumOf}
+use Rattle.rules.specs.Tables.{Awaited, mutexOf, semOf, time, awaitedKind, isSleep, Wait, Tables, taskCount, mutexCount, semCount, outcomeOf, waitOf, ownerOf, countOf, maximumOf, ticksOf, waitFor}
 use Rattle.rules.specs.Levels.{ownerAwaited, ofWait, next, linksOf, closesRing, awaits, bestWaiter}
 use Rattle.rules.specs.State.{State, fresh, withTables, withStarted, withClock, withHold, levelOf}
 use Rattle.rules.specs.Step.{Step, task, mutex, sem, start, lock, unlock, pend, post, flush, sleep, yield, hold, free, tick, level, outcome}
-use Rattle.rules.specs.Effect.{Effect, done, give, setCount, endWaits, ended, ticksOf, waitFor, callerWaits, lockBy, passOn, pendBy, credit, flushOf, isDue, due, outcomeDue, ageAll, tickOf, yieldBy, called, effect}
+use Rattle.rules.specs.Effect.{Effect, done, give, setCount, endWaits, ended, callerWaits, lockBy, passOn, pendBy, credit, flushOf, isDue, due, outcomeDue, ageAll, tickOf, yieldBy, called, effect}
 use Rattle.rules.specs.Settle.{settle, finish}
 use Rattle.rules.specs.Refusal.{Row, isWaitingTime, isSleepTime, held, ofCaller, taken, noCredit, noSuchMutex, noSuchSem, refusals, firstRow}
 use Rattle.rules.specs.Sound.{waitCount}

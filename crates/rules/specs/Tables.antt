@@ -5,7 +5,7 @@ use mathlib.Core.Option.{Option, none, some}
 use Prim.Native.Nat.{ℕ}
 use lib.Dec.{eqb}
 use lib.ListN.{length, getD}
-use Rattle.rules.specs.Sizes.{onMutex, onSemaphore, onTime}
+use Rattle.rules.specs.Sizes.{forever, onMutex, onSemaphore, onTime}
 
 -- what a task waits for
 pub data Awaited : Type 0 where
@@ -23,13 +23,6 @@ awaitedObject (mutexOf m) = m
 awaitedObject (semOf k) = k
 awaitedObject time = 0
 
--- what two numbers stand for
-unfoldable pub awaitedBy : ℕ → ℕ → Option Awaited
-awaitedBy kind object =
-    cond (eqb kind onMutex) (some (mutexOf object))
-    (cond (eqb kind onSemaphore) (some (semOf object))
-    (cond (eqb kind onTime) (some time) none))
-
 abbrev pub isSleep : Awaited → Bool
 isSleep a = eqb (awaitedKind a) onTime
 
@@ -37,6 +30,13 @@ isSleep a = eqb (awaitedKind a) onTime
 pub record Wait : Type 0 where
   pub on : Awaited
   pub left : Option ℕ
+
+-- a wait that begins with time t
+unfoldable pub ticksOf : ℕ → Option ℕ
+ticksOf t = cond (eqb t forever) none (some t)
+
+abbrev pub waitFor : Awaited → ℕ → Wait
+waitFor a t = record { on = a; left = ticksOf t }
 
 -- a table has one column for each part, a task's, a mutex's, a semaphore's number being its place
 pub record TaskTable : Type 0 where

@@ -10,11 +10,11 @@ use Rattle.lists.specs.Order.{keep, range, byId, place, insertTail, insertHead,
 use Rattle.lists.specs.Table.{edit}
 use Rattle.chains.specs.Chain.{walk, endsb}
 use Rattle.chains.specs.Least.{least, leadsTo, leastLeading}
-use Rattle.rules.specs.Tables.{awaitedKind, awaitedObject}
+use Rattle.rules.specs.Tables.{awaitedKind, awaitedObject, ticksOf}
 use Rattle.rules.specs.Levels.{ownerAwaited, heirAwaited, ofWait, next, lends, levelIn, chainOf, sameAwaited, waitIsFor, waitersOf, bestWaiter}
 use Rattle.rules.specs.State.{State, fresh}
 use Rattle.rules.specs.Step.{Step, task, mutex, start, lock, unlock, sleep, tick, level}
-use Rattle.rules.specs.Effect.{ticksOf, callerWaits, lockBy, passOn, pendBy, credit, flushOf, isDue, expiry, outcomeDue, lessOne, age, tickOf, yieldBy, called, effect}
+use Rattle.rules.specs.Effect.{callerWaits, lockBy, passOn, pendBy, credit, flushOf, isDue, outcomeDue, lessOne, age, tickOf, yieldBy, called, effect}
 use Rattle.rules.specs.Settle.{settledReady, meet, dispatch, finish}
 use Rattle.rules.specs.Refusal.{ofCaller, linksFor, refusals, firstRow}
 use Rattle.rules.specs.Sound.{columnsb, sizesb, rangesb, clockb, waitCount, waitingb, placesb, ascendingb, unavailableb, leftb, blockedb, timedb, waitersb, timesb, existsb, ownersb, noRingb, countsb, outcomeb, outcomesb, noneIn, runsb, holdb, urgentTop, urgentb, setUpb, tablesb, soundb}
@@ -107,7 +107,7 @@ cases = session ∷ nestedLocks ∷ []
 pub cases-agree : map (λ c. replay fresh (map (λ l. l .made) c)) cases ≡ map (λ c. map (λ l. l .logged) c) cases
 unfolding cases session nestedLocks replay _and_ _or_ allb someb holds eqn occ keep range byId place insertTail insertHead insertAll stable ascb tiesb
     firstAt orElse firstFrom before inside edit walk endsb least leadsTo leastLeading awaitedKind awaitedObject ownerAwaited heirAwaited ofWait next lends levelIn chainOf
-    sameAwaited waitIsFor waitersOf bestWaiter fresh ticksOf callerWaits lockBy passOn pendBy credit flushOf isDue expiry outcomeDue lessOne age
+    sameAwaited waitIsFor waitersOf bestWaiter fresh ticksOf callerWaits lockBy passOn pendBy credit flushOf isDue outcomeDue lessOne age
     tickOf yieldBy called effect settledReady meet dispatch finish ofCaller linksFor refusals firstRow columnsb sizesb rangesb clockb waitCount
     waitingb placesb ascendingb unavailableb leftb blockedb timedb waitersb timesb existsb ownersb noRingb countsb outcomeb outcomesb noneIn runsb
     holdb urgentTop urgentb setUpb tablesb soundb decide stepSound standing step

@@ -17,10 +17,10 @@ use Rattle.chains.specs.Chain.{From, here, on}
 use Rattle.chains.specs.ChainLaws.{from-some}
 use Rattle.chains.specs.LeastLaws.{leading-att}
 use Rattle.rules.specs.Sizes.{levels}
-use Rattle.rules.specs.Tables.{Awaited, mutexOf, semOf, time, awaitedKind, awaitedObject, awaitedBy, isSleep, Wait, Tables, taskCount, priorityOf, waitOf}
+use Rattle.rules.specs.Tables.{Awaited, mutexOf, semOf, time, awaitedKind, awaitedObject, isSleep, Wait, Tables, taskCount, priorityOf, waitOf, kindOf, ownerOf}
 use Rattle.rules.specs.Levels.{heirAwaited, ofWait, lends, levelIn, sameAwaited, waitIsFor, awaits, waitersOf, bestWaiter}
 use Rattle.rules.specs.State.{State, withTables}
-use Rattle.rules.specs.Effect.{ended, isDue, expiry, outcomeDue}
+use Rattle.rules.specs.Effect.{ended, isDue, outcomeDue}
 use Rattle.rules.specs.Sound.{waitCount}
 use Rattle.rules.specs.Invariant.{Unavailable, Blocked, Outcome, Facts, Places}
 use Rattle.rules.specs.LevelLaws.{wait-out, lends-ended, level-in}
@@ -42,21 +42,17 @@ due-waits none e = absurd (clash e refl)
 due-waits (some w) e = refl
 
 -- kind and object tell what is awaited
-awaited-by : (a : Awaited) → awaitedBy (awaitedKind a) (awaitedObject a) ≡ some a
-unfolding awaitedBy awaitedKind awaitedObject
-awaited-by (mutexOf m) = refl
-awaited-by (semOf k) = refl
-awaited-by time = refl
-
 pub same-awaited : (a b : Awaited) → sameAwaited a b ≡ true → a ≡ b
-unfolding sameAwaited
-same-awaited a b e = some-same (sym (awaited-by a) ∙ ap (λ k. awaitedBy k (awaitedObject a)) kind ∙ ap (awaitedBy (awaitedKind b)) object ∙ awaited-by b)
-  where
-    kind : awaitedKind a ≡ awaitedKind b
-    kind = eqb-true _ _ (and-l _ _ e)
-
-    object : awaitedObject a ≡ awaitedObject b
-    object = eqb-true _ _ (and-r _ _ e)
+unfolding sameAwaited awaitedKind awaitedObject
+same-awaited (mutexOf m) (mutexOf n) e = ap mutexOf (eqb-true m n (and-r _ _ e))
+same-awaited (mutexOf m) (semOf n) e = absurd (clash (and-l _ _ e) refl)
+same-awaited (mutexOf m) time e = absurd (clash (and-l _ _ e) refl)
+same-awaited (semOf m) (mutexOf n) e = absurd (clash (and-l _ _ e) refl)
+same-awaited (semOf m) (semOf n) e = ap semOf (eqb-true m n (and-r _ _ e))
+same-awaited (semOf m) time e = absurd (clash (and-l _ _ e) refl)
+same-awaited time (mutexOf n) e = absurd (clash (and-l _ _ e) refl)
+same-awaited time (semOf n) e = absurd (clash (and-l _ _ e) refl)
+same-awaited time time e = refl
 
 pub awaited-self : (a : Awaited) → sameAwaited a a ≡ true
 unfolding sameAwaited
@@ -69,13 +65,13 @@ awaited-blocked t a none b e = absurd (clash e refl)
 awaited-blocked t a (some w) b e = subst (Unavailable t) (same-awaited (w .on) a e) b
 
 -- and lends to whom a wait for a lends
-pub awaits-lends : (t : Tables) (a : Awaited) (i : ℕ) → awaits t a i ≡ true → lends t i ≡ heirAwaited t a
+pub awaits-lends : (t : Tables) (a : Awaited) (i : ℕ) → awaits t a i ≡ true → lends t i ≡ heirAwaited (kindOf t) (ownerOf t) a
 unfolding lends ofWait waitIsFor
 awaits-lends t a i e = go (waitOf t i) e
   where
-    go : (w : Option Wait) → waitIsFor w a ≡ true → ofWait (heirAwaited t) w ≡ heirAwaited t a
+    go : (w : Option Wait) → waitIsFor w a ≡ true → ofWait (heirAwaited (kindOf t) (ownerOf t)) w ≡ heirAwaited (kindOf t) (ownerOf t) a
     go none e = absurd (clash e refl)
-    go (some w) e = ap (heirAwaited t) (same-awaited (w .on) a e)
+    go (some w) e = ap (heirAwaited (kindOf t) (ownerOf t)) (same-awaited (w .on) a e)
 
 pub not-due : isDue none ≡ false
 unfolding isDue
@@ -83,12 +79,9 @@ not-due = refl
 
 -- what a wait that runs out leaves is no outcome of a waiting task
 pub outcome-due : (w : Option Wait) → Outcome none (outcomeDue w)
-unfolding outcomeDue expiry
+unfolding outcomeDue
 outcome-due none = inl refl
-outcome-due (some w) = go (w .on)
-  where
-    go : (a : Awaited) → Outcome none (expiry a)
-    go a = by-test (Outcome none) (isSleep a) (λ e. inl refl) (λ e. inr (inl refl))
+outcome-due (some w) = by-test (Outcome none) (isSleep (w .on)) (λ e. inl refl) (λ e. inr (inl refl))
 
 module _ (t : Tables) (F : Facts t) where
   -- where nobody waits, a level is the own priority

@@ -1,10 +1,8 @@
 -- Definitions first, then the laws of them.
-pub mod LineRun
 pub mod WholeLog
 pub mod Session
 pub mod Pieces
 pub mod ToCome
-pub mod LineRunLaws
 pub mod WholeLogLaws
 pub mod SessionLaws
 pub mod RoomLaws

@@ -5,6 +5,7 @@ use mathlib.Core.Bool.{cond}
 use mathlib.Core.Option.{Option, none, some}
 use lib.Dec.{eqb}
 use lib.ListN.{length, take, drop}
+use Rattle.log_lines.specs.LogLine.{lineRoom}
 use Rattle.script.specs.Session.{freshSession, movedTo, pieceRun, endRun, endMemory}
 use Rattle.script.specs.declared.session.Session.{Session}
 
@@ -12,10 +13,6 @@ use Rattle.script.specs.declared.session.Session.{Session}
 pub record Piece : Type 0 where
   pub bytes : List ℕ
   pub memory : List ℕ
-
--- how much room a log line takes at most: three numbers, two tabs and an LF
-abbrev pub lineRoom : ℕ
-lineRoom = 33
 
 -- room for the log lines of a piece: a line takes a byte at least, its LF
 abbrev pub Roomy : Piece → Type 0

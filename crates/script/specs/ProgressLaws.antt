@@ -17,7 +17,8 @@ use Rattle.script.specs.WholeLog.{wholeLog}
 use Rattle.script.specs.Session.{turned, Stand, turnAt, standAt, through, pieceRun, leftArrivals, endRun, endMemory, standFor}
 use Rattle.script.specs.SessionLaws.{turn-next, stand-next}
 use Rattle.script.specs.RoomLaws.{found-fits, turn-length, turn-few, turn-room}
-use Rattle.script.specs.Pieces.{Piece, lineRoom, AllRoomy, more-roomy, Underway, starting, onward, underway, endedWith}
+use Rattle.script.specs.Pieces.{Piece, AllRoomy, more-roomy, Underway, starting, onward, underway, endedWith}
+use Rattle.log_lines.specs.LogLine.{lineRoom}
 use Rattle.script.specs.PiecesLaws.{pieces-whole}
 use Rattle.script.specs.declared.session.Session.{Session}
 

@@ -16,14 +16,15 @@ use Rattle.arrive.specs.declared.Found.the-variants as found
 use Rattle.text.specs.Place.{room}
 use Rattle.text.specs.PlaceLaws.{put-laid, length-put, take-laid}
 use Rattle.record.specs.declared.State.{State}
-use Rattle.syntax.specs.Ascii.{ascii}
+use Rattle.text.specs.Ascii.{ascii}
 use Rattle.syntax.specs.Form.{sameBytes}
-use Rattle.syntax.specs.LogLine.{headerBytes, logBytes, badBytes}
-use Rattle.script.specs.LineRun.{awaiting, running, headLog}
-use Rattle.script.specs.LineRunLaws.{line-room}
+use Rattle.log_lines.specs.LogLine.{logBytes, badBytes}
+use Rattle.syntax.specs.Form.{headerBytes}
+use Rattle.script_lines.specs.LineRun.{awaiting, running, headLog}
+use Rattle.log_lines.specs.LogLineLaws.{line-room}
 use Rattle.script.specs.Session.{lineLog, lineTaken, takenMemory, lineIn, foundTaken, foundMemory, turned, Stand, fedAt, carryAt, lineAt, freeOf, turnAt, standAt}
 use Rattle.script.specs.SessionLaws.{found-short}
-use Rattle.script.specs.Pieces.{lineRoom}
+use Rattle.log_lines.specs.LogLine.{lineRoom}
 use Rattle.script.specs.ToCome.{arrivalsLog, arrivalsState, arrivalsStage}
 use Rattle.script.specs.declared.session.Taken.{Taken}
 

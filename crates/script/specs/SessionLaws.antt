@@ -24,10 +24,11 @@ use Rattle.text.specs.Lines.{lf}
 use Rattle.text.specs.Place.{room, putBytes}
 use Rattle.rules.specs.Log.{runField}
 use Rattle.walks.specs.Walk.{taskAt}
-use Rattle.syntax.specs.Ascii.{ascii}
+use Rattle.text.specs.Ascii.{ascii}
 use Rattle.syntax.specs.Form.{sameBytes, stepOn}
-use Rattle.syntax.specs.LogLine.{lineBytes, headerBytes, logBytes, badBytes}
-use Rattle.script.specs.LineRun.{awaiting, running, lineAnswered, lineFor, reported, ranLine, memoryLine, headLog, headed, memoryHead}
+use Rattle.log_lines.specs.LogLine.{lineBytes, logBytes, badBytes}
+use Rattle.syntax.specs.Form.{headerBytes}
+use Rattle.script_lines.specs.LineRun.{awaiting, running, lineAnswered, lineFor, reported, ranLine, memoryLine, headLog, headed, memoryHead}
 use Rattle.script.specs.Session.{lineLog, lineState, lineStage, roomNumber, lineTaken, takenMemory, lineIn, foundTaken, foundMemory, turnWith, turned, Stand, carryAt, lineAt, freeOf, turnAt, standAt, stopAt, through, lastArrivals, leftArrivals, endRun}
 use Rattle.script.specs.declared.session.Session.{Session}
 use Rattle.script.specs.declared.session.Moved.{Moved}

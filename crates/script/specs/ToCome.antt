@@ -7,8 +7,8 @@ use lib.ListN.{length}
 use Rattle.arrive.specs.Arrive.{Arrival, arrived}
 use Rattle.arrive.specs.Feed.{unendedOf}
 use Rattle.record.specs.declared.State.{State}
-use Rattle.syntax.specs.LogLine.{badBytes}
-use Rattle.script.specs.LineRun.{awaiting}
+use Rattle.log_lines.specs.LogLine.{badBytes}
+use Rattle.script_lines.specs.LineRun.{awaiting}
 use Rattle.script.specs.Session.{lineLog, lineState, lineStage, lineIn}
 use Rattle.script.specs.Pieces.{Underway}
 use Rattle.script.specs.declared.session.Session.{Session}

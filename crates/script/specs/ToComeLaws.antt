@@ -15,11 +15,12 @@ use Rattle.text.specs.Cut.{pieces}
 use Rattle.text.specs.Fields.{fields}
 use Rattle.record.specs.DemandRecord.{freshRecord}
 use Rattle.record.specs.declared.State.{State}
-use Rattle.syntax.specs.Ascii.{ascii}
+use Rattle.text.specs.Ascii.{ascii}
 use Rattle.syntax.specs.Form.{longest, words, sameBytes, numbersOf, madeBy, madeFrom, stepIn, stepOn}
-use Rattle.syntax.specs.LogLine.{headerBytes, logBytes, badBytes}
+use Rattle.log_lines.specs.LogLine.{logBytes, badBytes}
+use Rattle.syntax.specs.Form.{headerBytes}
 use Rattle.syntax.specs.SameLaws.{same-length}
-use Rattle.script.specs.LineRun.{awaiting, running, over, lineAnswered, lineFor, headLog, headStage}
+use Rattle.script_lines.specs.LineRun.{awaiting, running, over, lineAnswered, lineFor, headLog, headStage}
 use Rattle.script.specs.WholeLog.{logFrom, logOf}
 use Rattle.script.specs.Session.{lineLog, lineState, lineStage, lineIn, lastArrivals}
 use Rattle.script.specs.ToCome.{arrivalsLog, arrivalsState, arrivalsStage, closing, allLog}

@@ -12,7 +12,7 @@ use Rattle.record.specs.DemandRecord.{freshRecord, inMemory, callRecord, events
 use Rattle.record.specs.DemandRecordLaws.{demand-3-record}
 use Rattle.record.specs.declared.State.{State}
 use Rattle.syntax.specs.Form.{stepOn}
-use Rattle.script.specs.LineRun.{lineAnswered}
+use Rattle.script_lines.specs.LineRun.{lineAnswered}
 use Rattle.script.specs.WholeLog.{recordFrom, withCall, callsIn}
 
 -- the record that the lines leave is the one that the calls leave

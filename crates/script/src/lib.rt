@@ -1,4 +1,2 @@
-// Scripts: one line run, with its log line, and arriving bytes run line by line.
-pub mod lent;
-pub mod run;
+// Scripts whose bytes arrive in any pieces.
 pub mod session;

@@ -2,11 +2,11 @@
 ghost use mathlib.Core.Path.{_≡_};
 ghost use Rattle.arrive.specs.Feed.{fed, carryAfter, arrivalsOf};
 ghost use Rattle.script.specs.Session.{freshSession, roomNumber, lineTaken, takenMemory, foundTaken, foundMemory, turned, movedTo, pieceRun, leftArrivals, endRun, endMemory};
-use crate::run;
-use crate::run::AWAITING;
-use crate::run::RUNNING;
 use arrive::Found;
 use record::State;
+use script_lines::run;
+use script_lines::run::AWAITING;
+use script_lines::run::RUNNING;
 
 // What a script has come to: the record, where it stands, and how many bytes of a line the carry holds.
 pub struct Session {

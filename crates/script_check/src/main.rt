@@ -5,8 +5,8 @@ mod stops;
 use libc::STDOUT_FILENO;
 use reader::whole;
 use record::State;
-use script::lent;
-use script::run;
+use script_lines::lent;
+use script_lines::run;
 use text::cut;
 
 // The longest log line: three numbers, two tabs and an LF.

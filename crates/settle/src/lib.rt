@@ -3,7 +3,6 @@ mod flags;
 
 ghost use mathlib.Core.Path.{_≡_};
 ghost use Rattle.machine.specs.Machine.{resettled, settled, without, ran, displaced, dispatched, woke, lined, blockedOn};
-use changes::tables;
 use record::FOREVER;
 use record::NONE;
 use record::State;
@@ -41,7 +40,7 @@ pub fn settle(mut s: State, woken: [u8; TASKS]) -> State
 fn without_id(q: TaskList, id: u8) -> TaskList
     ensures { λ r. ⌜ r ≡ without q id ⌝ }
 {
-    let f = tables::only(id);
+    let f = waits::only(id);
     task_lists::keep_flagged(q, f, 0)
 }
 
@@ -98,7 +97,7 @@ pub fn dispatch(s: State) -> State
 pub fn wake(mut s: State, flags: [u8; TASKS], slept: u8, other: u8) -> State
     ensures { λ r. ⌜ r ≡ woke s flags slept other ⌝ }
 {
-    let t = tables::end_where(s.tasks, flags, slept, other);
+    let t = waits::end_where(s.tasks, flags, slept, other);
     let q = task_lists::keep_flagged(s.waiting, flags, 0);
     s.tasks = t;
     s.waiting = q;
@@ -124,12 +123,12 @@ pub fn block(mut s: State, id: u8, kind: u8, object: u8, time: u32) -> State
     s.waiting = q;
     s.running = NONE;
     if time == FOREVER {
-        let t = tables::begin_wait(s.tasks, id, kind, object, 0, 0);
+        let t = waits::begin_wait(s.tasks, id, kind, object, 0, 0);
         s.tasks = t;
         return s;
     }
-    let due = tables::due_at(s.clock, time);
-    let t = tables::begin_wait(s.tasks, id, kind, object, 1, due);
+    let due = waits::due_at(s.clock, time);
+    let t = waits::begin_wait(s.tasks, id, kind, object, 1, due);
     s.tasks = t;
     s
 }

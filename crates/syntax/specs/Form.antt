@@ -11,7 +11,11 @@ use Rattle.decimal.specs.Parse.{parsed}
 use Rattle.decimal.specs.declared.Number.{Number}
 use Rattle.decimal.specs.declared.Number.the-variants.{Value, Bad}
 use Rattle.rules.specs.Step.{Step, task, mutex, sem, start, lock, unlock, pend, post, flush, sleep, yield, hold, free, tick, level, outcome}
-use Rattle.syntax.specs.Ascii.{ascii}
+use Rattle.text.specs.Ascii.{ascii}
+
+-- a script's first line: "The first line is `kernel`, tab, `1`"
+unfoldable pub headerBytes : List ℕ
+headerBytes = ascii "kernel\t1"
 
 -- "Lines over 80 bytes without the LF .. are answered 14" (no step is so long: WrittenLaws, line-short)
 abbrev pub longest : ℕ

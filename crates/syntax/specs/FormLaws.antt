@@ -11,13 +11,13 @@ use borrow.Author.Tests.{ne-eqb, ltb-true, leb-true}
 use Rattle.lists.specs.Test.{_and_}
 use Rattle.rules.specs.Step.{Step, task, mutex, sem, start, lock, unlock, pend, post, flush, sleep, yield, hold, free, tick, level, outcome}
 use Rattle.record.specs.DemandRecord.{requestFor}
-use Rattle.syntax.specs.Ascii.{ascii}
+use Rattle.text.specs.Ascii.{ascii}
 use Rattle.syntax.specs.Form.{Word, alone, withOne, withTwo, words, sameBytes, madeBy}
 use Rattle.syntax.specs.Reading.{readingFor, reading}
 use Rattle.syntax.specs.Written.{nameOf, numbersIn}
 use Rattle.syntax.specs.SameLaws.{same-equal, same-length}
-use Rattle.syntax.specs.declared.read.Reading.{Reading}  -- keep
-use Rattle.syntax.specs.declared.read.Reading.the-variants.{Made, Malformed}  -- keep
+use Rattle.syntax.specs.declared.Reading.{Reading}  -- keep
+use Rattle.syntax.specs.declared.Reading.the-variants.{Made, Malformed}  -- keep
 
 -- each step is what its word makes of its numbers
 pub made-back : (x : Step) → madeBy words (nameOf x) (numbersIn x) ≡ some x

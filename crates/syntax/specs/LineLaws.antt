@@ -21,7 +21,7 @@ use Rattle.syntax.specs.Form.{longest, mostNumbers, withNumber, numbersO
 use Rattle.syntax.specs.Unread.{unread, behindThese, madeWith}
 use Rattle.syntax.specs.Reading.{readingFor, reading}
 use Rattle.syntax.specs.WrittenLaws.{made-many}
-use Rattle.syntax.specs.declared.read.Reading.the-variants.{Malformed}  -- keep
+use Rattle.syntax.specs.declared.Reading.the-variants.{Malformed}  -- keep
 
 -- the field that begins at a place, and those that are left where it ends
 fields-from : (line : List ℕ) (at : ℕ) → fields (drop at line) ≡ upTo tab (drop at line) ∷ unread line (findFrom tab line at)

@@ -5,8 +5,8 @@ use Prim.Native.Nat.{ℕ}
 use Rattle.rules.specs.Step.{Step}
 use Rattle.record.specs.DemandRecord.{requestFor}
 use Rattle.syntax.specs.Form.{words, madeBy}
-use Rattle.syntax.specs.declared.read.Reading.{Reading}  -- keep
-use Rattle.syntax.specs.declared.read.Reading.the-variants.{Made, Malformed}  -- keep
+use Rattle.syntax.specs.declared.Reading.{Reading}  -- keep
+use Rattle.syntax.specs.declared.Reading.the-variants.{Made, Malformed}  -- keep
 
 unfoldable pub readingFor : Option Step → Reading
 readingFor none = Malformed

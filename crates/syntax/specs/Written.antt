@@ -7,7 +7,7 @@ use Rattle.decimal.specs.Decimal.{decimal}
 use Rattle.text.specs.Fields.{tab}
 use Rattle.decimal.specs.Parse.{most}
 use Rattle.rules.specs.Step.{Step, task, mutex, sem, start, lock, unlock, pend, post, flush, sleep, yield, hold, free, tick, level, outcome}
-use Rattle.syntax.specs.Ascii.{ascii}
+use Rattle.text.specs.Ascii.{ascii}
 
 -- "a step's name above"
 unfoldable pub nameOf : Step → List ℕ

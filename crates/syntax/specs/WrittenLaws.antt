@@ -20,7 +20,7 @@ use Rattle.decimal.specs.ParseLaws.{parse-written, written-parse}
 use Rattle.decimal.specs.declared.Number.{Number}  -- keep
 use Rattle.decimal.specs.declared.Number.the-variants.{Value, Bad}  -- keep
 use Rattle.rules.specs.Step.{Step, task, mutex, sem, start, lock, unlock, pend, post, flush, sleep, yield, hold, free, tick, level, outcome}
-use Rattle.syntax.specs.Ascii.{ascii}
+use Rattle.text.specs.Ascii.{ascii}
 use Rattle.syntax.specs.Form.{longest, mostNumbers, Word, alone, withOne, withTwo, words, sameBytes, madeBy, withNumber, numbersOf, madeFrom, stepIn, stepOn}
 use Rattle.syntax.specs.SameLaws.{same-equal}
 use Rattle.syntax.specs.FormLaws.{made-back, Each, end, _also_}

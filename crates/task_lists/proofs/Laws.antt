@@ -11,7 +11,7 @@ use borrow.Author.Tests.{le-leb, lt-leb}
 use lib.Dec.{leb, eqb}
 use lib.ListN.{length, getD, set, take, drop, length-take, replicate}
 use lib.Seq.{drop-cons, take-suc-set, drop-set-lt, append-snoc, set-split}
-use Rattle.lists.specs.Test.{_and_, _or_}
+use Rattle.lists.specs.Test.{_and_}
 use Rattle.lists.specs.TestLaws.{which, by-test}
 use Rattle.lists.specs.Table.{pad}
 use Rattle.lists.specs.Order.{keep, firstAt, firstFrom, orElse}

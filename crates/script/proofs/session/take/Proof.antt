@@ -3,8 +3,8 @@ use mathlib.Core.Path.{ap, _∙_}
 use borrow.Author.Tests.{eq-eqb, ne-eqb}
 use Rattle.script.specs.Session.{roomNumber}
 use Rattle.script.specs.SessionLaws.{ran-taken, ran-memory, headed-taken, headed-memory, passed-taken, passed-memory}
-use Rattle.script.specs.declared.run.Ran.{Ran}
-use Rattle.script.specs.declared.run.Headed.{Headed}
+use Rattle.script_lines.specs.declared.run.Ran.{Ran}
+use Rattle.script_lines.specs.declared.run.Headed.{Headed}
 use borrow.Author.Needs.{needs}
 use Rattle.script.proofs.session.take.Statement.{statement}
 use Rattle.script.proofs.session.take.Tie as tie

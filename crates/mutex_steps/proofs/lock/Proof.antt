@@ -1,0 +1,90 @@
+-- `mutex_steps::lock` meets its contract.
+use borrow.Author.Needs.{needs}
+use borrow.Author.Tests.{eq-eqb, le-leb, lt-leb, ne-eqb, not-false, not-true}
+use mathlib.Core.Path.{_∙_}
+use Rattle.machine.specs.Machine.{calledBy, lockStep}
+use Rattle.mutex_steps.proofs.lock.Statement.{statement}
+use Rattle.mutex_steps.proofs.lock.Tie as tie
+
+of-caller-requires : tie.Need-of-caller-requires
+of-caller-requires c κs = search needs
+
+answer-requires : tie.Need-answer-requires
+answer-requires c κs = search needs
+
+returns : tie.Need-returns
+unfolding lockStep calledBy
+returns c = simp (c .answer .ensures, ← c .before .before .of-caller .ensures, ne-eqb _ _ (c .before .if1 .taken))
+
+cast-if2 : tie.Need-cast-if2
+cast-if2 c = search needs
+
+answer-requires-2 : tie.Need-answer-requires-2
+answer-requires-2 c κs = search needs
+
+returns-2 : tie.Need-returns-2
+unfolding lockStep calledBy
+returns-2 c = simp (c .answer2 .ensures, le-leb _ _ (c .before .if2 .taken), ← c .before .before .before .before .of-caller .ensures, eq-eqb _ _ (c .before .before .before .if1 .left))
+
+is-time-requires : tie.Need-is-time-requires
+is-time-requires c κs = search needs
+
+answer-requires-3 : tie.Need-answer-requires-3
+answer-requires-3 c κs = search needs
+
+returns-3 : tie.Need-returns-3
+unfolding lockStep calledBy
+returns-3 c = simp (c .answer3 .ensures, ← c .before .before .is-time .ensures, not-true (c .before .before .is-time .result) (c .before .if3 .taken), lt-leb _ _ (c .before .before .before .if2 .left), ← c .before .before .before .before .before .before .of-caller .ensures, eq-eqb _ _ (c .before .before .before .before .before .if1 .left))
+
+cast-j : tie.Need-cast-j
+cast-j c = search needs
+
+owner-at-requires : tie.Need-owner-at-requires
+owner-at-requires c κs = search needs
+
+answer-requires-4 : tie.Need-answer-requires-4
+answer-requires-4 c κs = search needs
+
+returns-4 : tie.Need-returns-4
+unfolding lockStep calledBy
+returns-4 c = simp (c .answer4 .ensures, ← c .before .before .before .owner-at .ensures, ← c .before .before .before .before .before .is-time .ensures, eq-eqb _ _ (c .before .if4 .taken), not-false (c .before .before .before .before .before .is-time .result) (c .before .before .before .before .if3 .left), lt-leb _ _ (c .before .before .before .before .before .before .if2 .left), ← c .before .before .before .before .before .before .before .before .before .of-caller .ensures, eq-eqb _ _ (c .before .before .before .before .before .before .before .before .if1 .left))
+
+set-owner-requires : tie.Need-set-owner-requires
+set-owner-requires c κs = search needs
+
+answer-requires-5 : tie.Need-answer-requires-5
+answer-requires-5 c κs = search needs
+
+returns-5 : tie.Need-returns-5
+unfolding lockStep calledBy
+returns-5 c = c .answer5 .ensures ∙ rw (c .before .set-owner .ensures, ← c .before .before .before .before .before .owner-at .ensures, ← c .before .before .before .before .before .before .before .is-time .ensures, eq-eqb _ _ (c .before .before .if5 .taken), ne-eqb _ _ (c .before .before .before .if4 .left), not-false (c .before .before .before .before .before .before .before .is-time .result) (c .before .before .before .before .before .before .if3 .left), lt-leb _ _ (c .before .before .before .before .before .before .before .before .if2 .left), ← c .before .before .before .before .before .before .before .before .before .before .before .of-caller .ensures, eq-eqb _ _ (c .before .before .before .before .before .before .before .before .before .before .if1 .left))
+
+lock-waits-requires : tie.Need-lock-waits-requires
+lock-waits-requires c κs = search needs
+
+returns-6 : tie.Need-returns-6
+unfolding lockStep calledBy
+returns-6 c = simp (c .lock-waits .ensures, ← c .before .before .before .before .owner-at .ensures, ← c .before .before .before .before .before .before .is-time .ensures, ne-eqb _ _ (c .before .if5 .left), ne-eqb _ _ (c .before .before .if4 .left), not-false (c .before .before .before .before .before .before .is-time .result) (c .before .before .before .before .before .if3 .left), lt-leb _ _ (c .before .before .before .before .before .before .before .if2 .left), ← c .before .before .before .before .before .before .before .before .before .before .of-caller .ensures, eq-eqb _ _ (c .before .before .before .before .before .before .before .before .before .if1 .left))
+
+pub lock-spec : {M : Type 1} → statement M
+lock-spec =
+    tie.close
+    (tie.spec
+    of-caller-requires
+    answer-requires
+    returns
+    cast-if2
+    answer-requires-2
+    returns-2
+    is-time-requires
+    answer-requires-3
+    returns-3
+    cast-j
+    owner-at-requires
+    answer-requires-4
+    returns-4
+    set-owner-requires
+    answer-requires-5
+    returns-5
+    lock-waits-requires
+    returns-6)
