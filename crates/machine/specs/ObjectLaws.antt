@@ -60,22 +60,22 @@ unfolding levelIn
 level-same t t′ h e i = ap (λ (l : List ℕ). leastLeading (length l) (lends t′) (λ j. getD l j 0) i) e ∙ ap (λ (f : ℕ → Option ℕ). leastLeading (taskCount t) f (priorityOf t) i) (fun-ext h)
 
 -- who lends to whom, where mutexes stay as they are
-lends-kept : (t : Tables) (x : TaskTable) (c : SemTable) (i : ℕ) → lends (withTasks (withSemaphores t c) x) i ≡ ofWait (heirAwaited (kindOf t) (ownerOf t)) (getD (x .waits) i none)
+lends-kept : (t : Tables) (x : TaskTable) (c : SemTable) (i : ℕ) → lends (withTasks (withSemaphores t c) x) i ≡ ofWait (heirAwaited t) (getD (x .waits) i none)
 unfolding lends ofWait heirAwaited
 lends-kept t x c i = go (getD (x .waits) i none)
   where
-    heir : (a : Awaited) → heirAwaited (kindOf (withTasks (withSemaphores t c) x)) (ownerOf (withTasks (withSemaphores t c) x)) a ≡ heirAwaited (kindOf t) (ownerOf t) a
+    heir : (a : Awaited) → heirAwaited (withTasks (withSemaphores t c) x) a ≡ heirAwaited t a
     heir (mutexOf m) = refl
     heir (semOf k) = refl
     heir time = refl
 
-    go : (w : Option Wait) → ofWait (heirAwaited (kindOf (withTasks (withSemaphores t c) x)) (ownerOf (withTasks (withSemaphores t c) x))) w ≡ ofWait (heirAwaited (kindOf t) (ownerOf t)) w
+    go : (w : Option Wait) → ofWait (heirAwaited (withTasks (withSemaphores t c) x)) w ≡ ofWait (heirAwaited t) w
     go none = refl
     go (some w) = heir (w .on)
 
 module _ (t : Tables) where
   -- a wait begins for what lends to nobody
-  pub lends-begin : (r : ℕ) (w : Wait) → r < length (t .tasks .waits) → waitOf t r ≡ none → heirAwaited (kindOf t) (ownerOf t) (w .on) ≡ none → (i : ℕ) → lends (beginWait t r w) i ≡ lends t i
+  pub lends-begin : (r : ℕ) (w : Wait) → r < length (t .tasks .waits) → waitOf t r ≡ none → heirAwaited t (w .on) ≡ none → (i : ℕ) → lends (beginWait t r w) i ≡ lends t i
   unfolding lends ofWait
   lends-begin r w h idle e i = lends-kept t ((beginWait t r w) .tasks) (t .semaphores) i ∙ elim (ℕ-discrete i r) [
     | yes q ↦ rw (q, getD-set-same (t .tasks .waits) r (some w) none h, idle) e
@@ -85,7 +85,7 @@ module _ (t : Tables) where
   -- waits end that lent to nobody
   pub lends-end : (p : ℕ → Bool) (out : ℕ → ℕ) → ((i : ℕ) → p i ≡ true → lends t i ≡ none) → (i : ℕ) → lends (endWaits t p out) i ≡ lends t i
   unfolding ofWait
-  lends-end p out h i = lends-kept t ((endWaits t p out) .tasks) (t .semaphores) i ∙ ap (ofWait (heirAwaited (kindOf t) (ownerOf t))) (wait-ended t p out i)
+  lends-end p out h i = lends-kept t ((endWaits t p out) .tasks) (t .semaphores) i ∙ ap (ofWait (heirAwaited t)) (wait-ended t p out i)
       ∙ elim (which (p i)) [ inl e ↦ rw e (sym (h i e)) | inr e ↦ rw e (sym (lends-kept t (t .tasks) (t .semaphores) i)) ]
 
   -- a mutex for which nobody waits gets another owner
@@ -93,12 +93,12 @@ module _ (t : Tables) where
   unfolding lends ofWait waitIsFor heirAwaited
   lends-give m o h i = go (waitOf t i) (h i)
     where
-      heir : (a : Awaited) → sameAwaited a (mutexOf m) ≡ false → heirAwaited (kindOf (give t m o)) (ownerOf (give t m o)) a ≡ heirAwaited (kindOf t) (ownerOf t) a
+      heir : (a : Awaited) → sameAwaited a (mutexOf m) ≡ false → heirAwaited (give t m o) a ≡ heirAwaited t a
       heir (mutexOf j) e = rw (getD-set-other (t .mutexes .owners) m j o none (λ q. clash (ap (λ z. sameAwaited (mutexOf z) (mutexOf m)) q ∙ awaited-self (mutexOf m)) e)) refl
       heir (semOf k) e = refl
       heir time e = refl
 
-      go : (w : Option Wait) → waitIsFor w (mutexOf m) ≡ false → ofWait (heirAwaited (kindOf (give t m o)) (ownerOf (give t m o))) w ≡ ofWait (heirAwaited (kindOf t) (ownerOf t)) w
+      go : (w : Option Wait) → waitIsFor w (mutexOf m) ≡ false → ofWait (heirAwaited (give t m o)) w ≡ ofWait (heirAwaited t) w
       go none e = refl
       go (some w) e = heir (w .on) e
 
@@ -109,9 +109,9 @@ module _ (t : Tables) where
   -- all waits are a tick older
   pub lends-age : (i : ℕ) → lends (ageAll t) i ≡ lends t i
   unfolding lends ofWait age
-  lends-age i = lends-kept t ((ageAll t) .tasks) (t .semaphores) i ∙ ap (ofWait (heirAwaited (kindOf t) (ownerOf t))) (List·getD-map age (t .tasks .waits) i none) ∙ go (waitOf t i)
+  lends-age i = lends-kept t ((ageAll t) .tasks) (t .semaphores) i ∙ ap (ofWait (heirAwaited t)) (List·getD-map age (t .tasks .waits) i none) ∙ go (waitOf t i)
     where
-      go : (w : Option Wait) → ofWait (heirAwaited (kindOf t) (ownerOf t)) (age w) ≡ ofWait (heirAwaited (kindOf t) (ownerOf t)) w
+      go : (w : Option Wait) → ofWait (heirAwaited t) (age w) ≡ ofWait (heirAwaited t) w
       go none = refl
       go (some w) = refl
 

@@ -79,7 +79,7 @@ may-wait k t o = go (eqb t 0) (ltb 0 (k .hold))
 
 module _ (s : Model) (I : Inv s) where
   -- the caller waits, and lends to nobody
-  wait-finish : (r : ℕ) (a : Awaited) (x links : ℕ) → s .running ≡ some r → Unavailable (s .tables) a → Left a (ticksOf x) → ownerAwaited (ownerOf (s .tables)) a ≡ none
+  wait-finish : (r : ℕ) (a : Awaited) (x links : ℕ) → s .running ≡ some r → Unavailable (s .tables) a → Left a (ticksOf x) → ownerAwaited (s .tables) a ≡ none
       → dispatched (blockedOn (pack s) ((pack s) .running) (awaitedKind a) (awaitedObject a) x) ≡ pack (dispatch (settle (levelOf s) ((callerWaits s r a x links) .state) []))
   unfolding callerWaits occ pack
   wait-finish r a x links run un left e =

@@ -117,7 +117,7 @@ module _ (t : Tables) (F : Facts t) where
       go time = sym no-time
 
   -- the owner of an inheriting mutex
-  heir-code : (j : ℕ) → taskAt (getD (filled maxMutexes (heirAt (packMutexes t))) j noId) ≡ heirAwaited (kindOf t) (ownerOf t) (mutexOf j)
+  heir-code : (j : ℕ) → taskAt (getD (filled maxMutexes (heirAt (packMutexes t))) j noId) ≡ heirAwaited t (mutexOf j)
   unfolding heirAwaited
   heir-code j = elim (decLt j maxMutexes) [
     | yes h ↦ ap taskAt (getD-filled maxMutexes (heirAt (packMutexes t)) noId j h)
@@ -143,11 +143,11 @@ module _ (t : Tables) (F : Facts t) where
 
   pub next-table : (clock : ℕ) (lv : List ℕ) (i : ℕ) → nextIn (filled taskPlaces (nextAt (putLevel (packTasks t clock) lv) (packMutexes t))) i ≡ next t i
   unfolding next ownerAwaited
-  next-table = led-table ((packMutexes t) .owner) (ownerAwaited (ownerOf t)) (λ j. ap taskAt (owner-read t j) ∙ owner-back t F j) (λ j. refl) refl
+  next-table = led-table ((packMutexes t) .owner) (ownerAwaited t) (λ j. ap taskAt (owner-read t j) ∙ owner-back t F j) (λ j. refl) refl
 
   pub lends-table : (clock : ℕ) (lv : List ℕ) (i : ℕ) → nextIn (filled taskPlaces (lendsAt (putLevel (packTasks t clock) lv) (packMutexes t))) i ≡ lends t i
   unfolding lends heirAwaited
-  lends-table = led-table (filled maxMutexes (heirAt (packMutexes t))) (heirAwaited (kindOf t) (ownerOf t)) heir-code (λ j. refl) refl
+  lends-table = led-table (filled maxMutexes (heirAt (packMutexes t))) (heirAwaited t) heir-code (λ j. refl) refl
 
   -- the levels that the code makes are the levels
   levels-table : (clock : ℕ) (lv : List ℕ) → newLevels (putLevel (packTasks t clock) lv) (packMutexes t) ≡ levelColumn t

@@ -182,7 +182,7 @@ module _ (k : State) (T : Typed k) (tidy : tidyb k ≡ true) where
       rw (view-wait i h) (task-cond (eqb kind onMutex) (getD l object noId) ∙ ap (λ o. cond (eqb kind onMutex) o none) (told object) ∙ sym (after-wait kind object _ f no-sem no-time))
 
   -- the owner of an inheriting mutex
-  view-heir : (j : ℕ) → taskAt (getD (filled maxMutexes (heirAt (k .mutexes))) j noId) ≡ heirAwaited (kindOf (viewTables k)) (ownerOf (viewTables k)) (mutexOf j)
+  view-heir : (j : ℕ) → taskAt (getD (filled maxMutexes (heirAt (k .mutexes))) j noId) ≡ heirAwaited (viewTables k) (mutexOf j)
   unfolding heirAwaited
   view-heir j = elim (decLt j (k .mutexes .n)) [
     | yes h ↦ ap taskAt (getD-filled maxMutexes (heirAt (k .mutexes)) noId j (omega (arith, mutexes-fit k tidy)))
@@ -198,11 +198,11 @@ module _ (k : State) (T : Typed k) (tidy : tidyb k ≡ true) where
 
   pub next-at : (i : ℕ) → i < k .tasks .n → taskAt (nextAt (k .tasks) (k .mutexes) i) ≡ next (viewTables k) i
   unfolding next ownerAwaited
-  next-at = led-wait (k .mutexes .owner) (ownerAwaited (ownerOf (viewTables k))) (λ j. sym (view-owner j)) (λ j. refl) refl
+  next-at = led-wait (k .mutexes .owner) (ownerAwaited (viewTables k)) (λ j. sym (view-owner j)) (λ j. refl) refl
 
   pub lends-at : (i : ℕ) → i < k .tasks .n → taskAt (lendsAt (k .tasks) (k .mutexes) i) ≡ lends (viewTables k) i
   unfolding lends heirAwaited
-  lends-at = led-wait (filled maxMutexes (heirAt (k .mutexes))) (heirAwaited (kindOf (viewTables k)) (ownerOf (viewTables k))) view-heir (λ j. refl) refl
+  lends-at = led-wait (filled maxMutexes (heirAt (k .mutexes))) (heirAwaited (viewTables k)) view-heir (λ j. refl) refl
 
   -- behind the last task there is none
   leads-out : (l : List ℕ) (i : ℕ) → k .tasks .n ≤ i → leadsAt (k .tasks) l i ≡ noId

@@ -16,7 +16,7 @@ use Rattle.lists.specs.Table.{putWhere}
 use Rattle.lists.specs.TestLaws.{clash, by-test, none-some, same-test}
 use Rattle.lists.specs.TableLaws.{snoc-default}
 use Rattle.chains.specs.Least.{leastLeading}
-use Rattle.rules.specs.Sizes.{granted, flushed}
+use Rattle.rules.specs.Sizes.{inheriting, granted, flushed}
 use Rattle.rules.specs.Tables.{Awaited, mutexOf, semOf, time, Wait, waitFor, SemTable, Tables, withSemaphores, taskCount, mutexCount, priorityOf, waitOf, kindOf, ownerOf, countOf}
 use Rattle.rules.specs.Levels.{ownerAwaited, heirAwaited, ofWait, next, lends, levelIn, linksOf, waitIsFor, awaits, waitersOf, bestWaiter}
 use Rattle.rules.specs.State.{State, withTables, placed, levelOf}
@@ -31,7 +31,7 @@ use Rattle.rules.specs.FactsLaws.{wait-ended}
 use Rattle.rules.specs.WaiterLaws.{best-is-least}
 use Rattle.rules.specs.StepLaws.{passed, called-by, caller-in}
 use Rattle.rules.specs.SoundLaws.{inv-sound}
-use Rattle.rules.specs.History.{Told, toldNext, toldLends, toldLevel, toldBest, nowOwned, begins, endsWhere, endsOf, timeUp, ticked, runnerOwns, handsOver, tells, nowRuns, observe}
+use Rattle.rules.specs.History.{Told, toldOwner, toldHeir, toldNext, toldLends, toldLevel, toldBest, nowOwned, begins, endsWhere, endsOf, timeUp, ticked, runnerOwns, handsOver, tells, nowRuns, observe}
 use Rattle.rules.specs.Demand.{eventOf, toldIn}
 use Rattle.rules.specs.RefusalLaws.{refused-number, refused-above, step-by, call-by, sound-stands}
 
@@ -115,19 +115,27 @@ more-less n (some w) = ap (λ l. some (record { on = w .on; left = l })) (go (w 
     go (some k) = ap some (omega arith)
 
 module _ {t : Tables} {h : Told} (A : Matches t h) where
-  -- whom each wait leads to
-  led-told : (f : Awaited → Option ℕ) (i : ℕ) → ofWait f (h .wait i) ≡ ofWait f (waitOf t i)
-  led-told f i = begun-of f (h .ticks i) (h .wait i) ∙ ap (ofWait f) (A .wait i)
+  -- whom each wait leads to, where the same is told of what is awaited
+  led-told : (f g : Awaited → Option ℕ) → ((a : Awaited) → f a ≡ g a) → (i : ℕ) → ofWait f (h .wait i) ≡ ofWait g (waitOf t i)
+  led-told f g same i = begun-of f (h .ticks i) (h .wait i) ∙ ap (ofWait f) (A .wait i) ∙ ap (λ k. ofWait k (waitOf t i)) (fun-ext same)
 
   pub next-told : toldNext h ≡ next t
-  unfolding toldNext next
-  next-told = fun-ext (λ i. led-told (ownerAwaited (h .owner)) i ∙ ap (λ o. ofWait (ownerAwaited o) (waitOf t i)) (fun-ext (A .owner)))
+  unfolding toldNext next toldOwner ownerAwaited
+  next-told = fun-ext (led-told (toldOwner h) (ownerAwaited t) same)
+    where
+      same : (a : Awaited) → toldOwner h a ≡ ownerAwaited t a
+      same (mutexOf m) = A .owner m
+      same (semOf k) = refl
+      same time = refl
 
   pub lends-told : toldLends h ≡ lends t
-  unfolding toldLends lends
-  lends-told = fun-ext (λ i. led-told (heirAwaited (λ m. getD (h .kinds) m 0) (h .owner)) i
-      ∙ (ap (λ k. ofWait (heirAwaited (λ m. getD k m 0) (h .owner)) (waitOf t i)) (A .kinds)
-      ∙ ap (λ o. ofWait (heirAwaited (kindOf t) o) (waitOf t i)) (fun-ext (A .owner))))
+  unfolding toldLends lends toldHeir heirAwaited
+  lends-told = fun-ext (led-told (toldHeir h) (heirAwaited t) same)
+    where
+      same : (a : Awaited) → toldHeir h a ≡ heirAwaited t a
+      same (mutexOf m) = ap (λ k. cond (eqb (getD k m 0) inheriting) (h .owner m) none) (A .kinds) ∙ ap (λ o. cond (eqb (kindOf t m) inheriting) o none) (A .owner m)
+      same (semOf k) = refl
+      same time = refl
 
   pub level-told : toldLevel h ≡ levelIn t
   unfolding toldLevel levelIn

@@ -20,7 +20,7 @@ pub record Answer : Type 0 where
 abbrev pub answerWith : State → ℕ → ℕ → Option ℕ → Answer
 answerWith s k v r = record { state = s; number = k; value = v; run = r }
 
--- an answer that hands on the state s, whose running task is the one to run. With a refusal s is the state handed in: "Every number but 0
+-- an answer that hands on s, whose running task is the one to run. With a refusal s is the state handed in: "Every number but 0
 -- and 1 leaves the state unchanged. The task to run is then the running one as it stands"
 abbrev pub answered : State → ℕ → ℕ → Answer
 answered s k v = answerWith s k v (s .running)

@@ -1,5 +1,5 @@
--- Demand 3, as a statement: what holds after any list of calls from a sound state, a fresh one among them. DemandLaws proves it. The quotes at
--- `MostUrgent`, `no-ring`, `runs` and `urgent` are the demand's own words, the others document 01's.
+-- Demand 3, as a statement over any list of calls from any sound state; DemandLaws proves it. The quotes at `MostUrgent`, `no-ring`, `runs` and
+-- `urgent` are the demand's own words, the others document 01's.
 use mathlib.Core.Path.{_≡_}
 use mathlib.Core.List.{List, [], _∷_}
 use mathlib.Core.Bool.{true}
@@ -65,11 +65,10 @@ pub record Demand (h : Told) (answer : Call → Answer) : Type 0 where
   pub urgent : h .depth ≡ 0 → (i r : ℕ) → Ready h i → h .runs ≡ some r
       → Runner h r × ((answer (levelCall r none)) .value ≤ (answer (levelCall i none)) .value)
 
--- the event of a call, from its answer
+-- the events of a list of calls, each from its answer, and the state handed on at its end
 abbrev pub eventOf : Step → Answer → Event
 eventOf x a = record { made = x; number = a .number; run = a .run }
 
--- the events of a list of calls, and the state handed on at its end
 unfoldable pub events : State → List Call → List Event
 events s [] = []
 events s (c ∷ cs) = eventOf (c .made) (call s c) ∷ events ((call s c) .state) cs
@@ -92,7 +91,6 @@ toldIn s = record {
   started = s .started;
 }
 
--- what a state and the events after it tell
 unfoldable pub told : State → List Event → Told
 told s es = toldFrom (toldIn s) es
 

@@ -24,7 +24,7 @@ pub record Effect : Type 0 where
 abbrev pub done : State → List ℕ → ℕ → Effect
 done s woken value = record { state = s; woken = woken; number = 0; value = value }
 
--- creation: one more place in each column of a table
+-- creation: one more place in each column
 abbrev pub addTask : Tables → ℕ → Tables
 addTask t p = withTasks t (record {
   priorities = t .tasks .priorities ++ (p ∷ []);

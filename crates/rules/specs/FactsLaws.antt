@@ -28,7 +28,7 @@ use Rattle.rules.specs.LevelLaws.{next-none, awaited-owner, next-ended}
 use Rattle.rules.specs.WaiterLaws.{awaited-self}
 
 -- who waits for whom, and that every chain ends, stays as it is where waits and owners stay
-owner-same : (t t′ : Tables) → ((m : ℕ) → ownerOf t′ m ≡ ownerOf t m) → (a : Awaited) → ownerAwaited (ownerOf t′) a ≡ ownerAwaited (ownerOf t) a
+owner-same : (t t′ : Tables) → ((m : ℕ) → ownerOf t′ m ≡ ownerOf t m) → (a : Awaited) → ownerAwaited t′ a ≡ ownerAwaited t a
 unfolding ownerAwaited
 owner-same t t′ h (mutexOf m) = h m
 owner-same t t′ h (semOf k) = refl
@@ -38,7 +38,7 @@ pub next-same : (t t′ : Tables) (x : ℕ) → waitOf t′ x ≡ waitOf t x →
 unfolding next ofWait
 next-same t t′ x e h = rw e (go (waitOf t x))
   where
-    go : (w : Option Wait) → ofWait (ownerAwaited (ownerOf t′)) w ≡ ofWait (ownerAwaited (ownerOf t)) w
+    go : (w : Option Wait) → ofWait (ownerAwaited t′) w ≡ ofWait (ownerAwaited t) w
     go none = refl
     go (some w) = owner-same t t′ h (w .on)
 
@@ -118,12 +118,12 @@ facts-give t m o h low idle F = facts-owner t m (some o)
     other : (k : ℕ) → (k ≡ m → ⊥) → ownerOf new k ≡ ownerOf t k
     other = owner-other t m (some o)
 
-    owned : (a : Awaited) → (ownerAwaited (ownerOf new) a ≡ ownerAwaited (ownerOf t) a) ⊎ (ownerAwaited (ownerOf new) a ≡ some o)
+    owned : (a : Awaited) → (ownerAwaited new a ≡ ownerAwaited t a) ⊎ (ownerAwaited new a ≡ some o)
     owned (mutexOf k) = elim (ℕ-discrete k m) [ yes p ↦ inr (rw p at-m) | no n ↦ inl (other k n) ]
     owned (semOf k) = inl refl
     owned time = inl refl
 
-    each : (w : Option Wait) → (ofWait (ownerAwaited (ownerOf new)) w ≡ ofWait (ownerAwaited (ownerOf t)) w) ⊎ (ofWait (ownerAwaited (ownerOf new)) w ≡ some o)
+    each : (w : Option Wait) → (ofWait (ownerAwaited new) w ≡ ofWait (ownerAwaited t) w) ⊎ (ofWait (ownerAwaited new) w ≡ some o)
     each none = inl refl
     each (some w) = owned (w .on)
 
@@ -154,12 +154,12 @@ facts-free t m nobody F = facts-owner t m none
     elsewhere : (k : ℕ) → sameAwaited (mutexOf k) (mutexOf m) ≡ false → ownerOf new k ≡ ownerOf t k
     elsewhere k e = other k (λ q. clash (ap (λ z. sameAwaited (mutexOf z) (mutexOf m)) q ∙ awaited-self (mutexOf m)) e)
 
-    owned : (a : Awaited) → sameAwaited a (mutexOf m) ≡ false → ownerAwaited (ownerOf new) a ≡ ownerAwaited (ownerOf t) a
+    owned : (a : Awaited) → sameAwaited a (mutexOf m) ≡ false → ownerAwaited new a ≡ ownerAwaited t a
     owned (mutexOf k) e = elsewhere k e
     owned (semOf k) e = refl
     owned time e = refl
 
-    each : (w : Option Wait) → waitIsFor w (mutexOf m) ≡ false → ofWait (ownerAwaited (ownerOf new)) w ≡ ofWait (ownerAwaited (ownerOf t)) w
+    each : (w : Option Wait) → waitIsFor w (mutexOf m) ≡ false → ofWait (ownerAwaited new) w ≡ ofWait (ownerAwaited t) w
     each none e = refl
     each (some w) e = owned (w .on) e
 
@@ -193,7 +193,7 @@ facts-begin t r w h idle un left clear F = record {
   blocked = λ i. elim (ℕ-discrete i r) [ yes p ↦ rw (p, at-r) (begun (w .on) un) | no n ↦ rw (other i n) (still t new (λ m o e. (o, e)) (λ k q e. (q, e)) (waitOf t i) (F .blocked i)) ];
   timed = λ i. elim (ℕ-discrete i r) [ yes p ↦ rw (p, at-r) left | no n ↦ rw (other i n) (F .timed i) ];
   owners = F .owners;
-  ends = chains (ownerAwaited (ownerOf t) (w .on)) refl;
+  ends = chains (ownerAwaited t (w .on)) refl;
   counts = F .counts;
   outcomes = λ i q. elim (ℕ-discrete i r) [
     | yes p ↦ rw (p, at-r) (getD-set-same (t .tasks .outcomes) r pending 0 (omega (arith, F .outcome-column)))
@@ -215,17 +215,17 @@ facts-begin t r w h idle un left clear F = record {
     begun (semOf k) u = u
     begun time u = tt
 
-    owned : ownerAwaited (ownerOf new) (w .on) ≡ ownerAwaited (ownerOf t) (w .on)
+    owned : ownerAwaited new (w .on) ≡ ownerAwaited t (w .on)
     owned = owner-same t new (λ m. refl) (w .on)
 
     next-other : (x : ℕ) → (x ≡ r → ⊥) → next new x ≡ next t x
     next-other x n = next-same t new x (other x n) (λ m. refl)
 
     -- r waits for what nobody owns, or for what the task o owns, whose chain does not come to r
-    chains : (q : Option ℕ) → ownerAwaited (ownerOf t) (w .on) ≡ q → (i : ℕ) → Ends (next new) (some i)
+    chains : (q : Option ℕ) → ownerAwaited t (w .on) ≡ q → (i : ℕ) → Ends (next new) (some i)
     chains none e i = ends-drop (λ x. elim (ℕ-discrete x r) [ yes p ↦ inr (rw (p, at-r) (owned ∙ e)) | no n ↦ inl (next-other x n) ]) (F .ends i .1)
     chains (some o) e i = ends-wait r o (rw at-r (owned ∙ e)) next-other (walk-is-chain ended (some o) (λ j q. omega (arith, some-same q, awaited-owner t F (w .on) o e)))
-        (omega (arith, ltb-false 0 (occ r (walk (taskCount t) (next t) (ownerAwaited (ownerOf t) (w .on)))) clear, ap (λ q. occ r (walk (taskCount t) (next t) q)) e)) (F .ends i .1)
+        (omega (arith, ltb-false 0 (occ r (walk (taskCount t) (next t) (ownerAwaited t (w .on)))) clear, ap (λ q. occ r (walk (taskCount t) (next t) q)) e)) (F .ends i .1)
       where
         ended : Ended (taskCount t) (next t)
         ended = next-ended t F
@@ -330,7 +330,7 @@ facts-age t later F = record {
     age-count none = refl
     age-count (some w) = refl
 
-    age-owner : (w : Option Wait) → ofWait (ownerAwaited (ownerOf (ageAll t))) (age w) ≡ ofWait (ownerAwaited (ownerOf t)) w
+    age-owner : (w : Option Wait) → ofWait (ownerAwaited (ageAll t)) (age w) ≡ ofWait (ownerAwaited t) w
     age-owner none = refl
     age-owner (some w) = owner-same t (ageAll t) (λ m. refl) (w .on)
 

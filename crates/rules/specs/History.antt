@@ -8,8 +8,9 @@ use lib.ListN.{length, getD}
 use Rattle.lists.specs.Test.{holds}
 use Rattle.lists.specs.Order.{keep, leastFirst}
 use Rattle.chains.specs.Least.{leastLeading}
+use Rattle.rules.specs.Sizes.{inheriting}
 use Rattle.rules.specs.Tables.{Awaited, mutexOf, semOf, time, Wait, waitFor}
-use Rattle.rules.specs.Levels.{ownerAwaited, heirAwaited, ofWait, waitIsFor}
+use Rattle.rules.specs.Levels.{ofWait, waitIsFor}
 use Rattle.rules.specs.Step.{Step, task, mutex, sem, start, lock, unlock, pend, post, flush, sleep, yield, hold, free, tick, level, outcome}
 use Rattle.rules.specs.Refusal.{ofCaller}
 
@@ -47,12 +48,23 @@ tasksMade h = length (h .priorities)
 abbrev pub ownPriority : Told → ℕ → ℕ
 ownPriority h i = getD (h .priorities) i 0
 
--- the owner of what i waits for, and who is lent its level
+-- the owner of what is awaited, and who is lent the level of a task that waits for it
+unfoldable pub toldOwner : Told → Awaited → Option ℕ
+toldOwner h (mutexOf m) = h .owner m
+toldOwner h (semOf k) = none
+toldOwner h time = none
+
+unfoldable pub toldHeir : Told → Awaited → Option ℕ
+toldHeir h (mutexOf m) = cond (eqb (getD (h .kinds) m 0) inheriting) (h .owner m) none
+toldHeir h (semOf k) = none
+toldHeir h time = none
+
+-- the owner of what i waits for, and who is lent the level of i
 unfoldable pub toldNext : Told → ℕ → Option ℕ
-toldNext h i = ofWait (ownerAwaited (h .owner)) (h .wait i)
+toldNext h i = ofWait (toldOwner h) (h .wait i)
 
 unfoldable pub toldLends : Told → ℕ → Option ℕ
-toldLends h i = ofWait (heirAwaited (λ m. getD (h .kinds) m 0) (h .owner)) (h .wait i)
+toldLends h i = ofWait (toldHeir h) (h .wait i)
 
 -- the level as the history defines it
 unfoldable pub toldLevel : Told → ℕ → ℕ
@@ -66,27 +78,27 @@ toldBest h a = leastFirst (toldLevel h) (keep (λ i. waitIsFor (h .wait i) a) (h
 abbrev pub at : {A : Type 0} → ℕ → A → (ℕ → A) → ℕ → A
 at k x f i = cond (eqb i k) x (f i)
 
--- what was made, and what stands beside the tables
+-- setters: what was made; what stands beside the tables; who owns and who waits
 abbrev pub toldMade : Told → List ℕ → List ℕ → Told
 toldMade h p k = record { priorities = p; kinds = k; owner = h .owner; wait = h .wait; ticks = h .ticks; order = h .order; runs = h .runs; depth = h .depth; started = h .started }
 
 abbrev pub toldBeside : Told → Option ℕ → ℕ → Bool → Told
 toldBeside h r d b = record { priorities = h .priorities; kinds = h .kinds; owner = h .owner; wait = h .wait; ticks = h .ticks; order = h .order; runs = r; depth = d; started = b }
 
-abbrev pub toldWaits : Told → (ℕ → Option Wait) → (ℕ → ℕ) → List ℕ → Told
-toldWaits h w n l = record { priorities = h .priorities; kinds = h .kinds; owner = h .owner; wait = w; ticks = n; order = l; runs = h .runs; depth = h .depth; started = h .started }
+abbrev pub toldHeld : Told → (ℕ → Option ℕ) → (ℕ → Option Wait) → (ℕ → ℕ) → List ℕ → Told
+toldHeld h o w n l = record { priorities = h .priorities; kinds = h .kinds; owner = o; wait = w; ticks = n; order = l; runs = h .runs; depth = h .depth; started = h .started }
 
 abbrev pub nowOwned : Told → ℕ → Option ℕ → Told
-nowOwned h m o = record { priorities = h .priorities; kinds = h .kinds; owner = at m o (h .owner); wait = h .wait; ticks = h .ticks; order = h .order; runs = h .runs; depth = h .depth; started = h .started }
+nowOwned h m o = toldHeld h (at m o (h .owner)) (h .wait) (h .ticks) (h .order)
 
 -- the task that ran begins to wait
 unfoldable pub begins : Told → Awaited → ℕ → Option ℕ → Told
 begins h a t none = h
-begins h a t (some r) = toldWaits h (at r (some (waitFor a t)) (h .wait)) (at r 0 (h .ticks)) (h .order ++ (r ∷ []))
+begins h a t (some r) = toldHeld h (h .owner) (at r (some (waitFor a t)) (h .wait)) (at r 0 (h .ticks)) (h .order ++ (r ∷ []))
 
 -- some waits end
 unfoldable pub endsWhere : Told → (ℕ → Bool) → Told
-endsWhere h p = toldWaits h (λ i. cond (p i) none (h .wait i)) (h .ticks) (keep (λ i. not (p i)) (h .order))
+endsWhere h p = toldHeld h (h .owner) (λ i. cond (p i) none (h .wait i)) (h .ticks) (keep (λ i. not (p i)) (h .order))
 
 unfoldable pub endsOf : Told → Option ℕ → Told
 endsOf h none = h
@@ -98,7 +110,7 @@ timeUp none n = false
 timeUp (some w) n = holds (w .left) (n + 1)
 
 unfoldable pub ticked : Told → Told
-ticked h = endsWhere (toldWaits h (h .wait) (λ i. h .ticks i + 1) (h .order)) (λ i. timeUp (h .wait i) (h .ticks i))
+ticked h = endsWhere (toldHeld h (h .owner) (h .wait) (λ i. h .ticks i + 1) (h .order)) (λ i. timeUp (h .wait i) (h .ticks i))
 
 -- the task that ran owns m: only "its own accepted unlock" ends its ownership
 abbrev pub runnerOwns : Told → ℕ → Bool

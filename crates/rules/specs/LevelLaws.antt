@@ -37,28 +37,28 @@ of-wait f none j e = none-some refl e
 of-wait f (some w) j e = (w .on, e)
 
 -- the owner of what is awaited owns a mutex
-pub owner-awaited : (t : Tables) (a : Awaited) (j : ℕ) → ownerAwaited (ownerOf t) a ≡ some j → (m : ℕ) × (ownerOf t m ≡ some j)
+pub owner-awaited : (t : Tables) (a : Awaited) (j : ℕ) → ownerAwaited t a ≡ some j → (m : ℕ) × (ownerOf t m ≡ some j)
 unfolding ownerAwaited
 owner-awaited t (mutexOf m) j e = (m, e)
 owner-awaited t (semOf k) j e = none-some refl e
 owner-awaited t time j e = none-some refl e
 
 -- the inheriting waits are among the waits
-heir-or : (t : Tables) (a : Awaited) → (heirAwaited (kindOf t) (ownerOf t) a ≡ ownerAwaited (ownerOf t) a) ⊎ (heirAwaited (kindOf t) (ownerOf t) a ≡ none)
+heir-or : (t : Tables) (a : Awaited) → (heirAwaited t a ≡ ownerAwaited t a) ⊎ (heirAwaited t a ≡ none)
 unfolding heirAwaited ownerAwaited
 heir-or t (mutexOf m) = by-test (λ (q : Option ℕ). (q ≡ ownerOf t m) ⊎ (q ≡ none)) (eqb (kindOf t m) inheriting) (λ e. inl refl) (λ e. inr refl)
 heir-or t (semOf k) = inr refl
 heir-or t time = inr refl
 
 -- what nobody owns lends to nobody
-pub heir-none : (t : Tables) (a : Awaited) → ownerAwaited (ownerOf t) a ≡ none → heirAwaited (kindOf t) (ownerOf t) a ≡ none
+pub heir-none : (t : Tables) (a : Awaited) → ownerAwaited t a ≡ none → heirAwaited t a ≡ none
 heir-none t a e = elim (heir-or t a) [ inl q ↦ q ∙ e | inr q ↦ q ]
 
 pub lend-or : (t : Tables) (i : ℕ) → (lends t i ≡ next t i) ⊎ (lends t i ≡ none)
 unfolding lends next ofWait
 lend-or t i = go (waitOf t i)
   where
-    go : (w : Option Wait) → (ofWait (heirAwaited (kindOf t) (ownerOf t)) w ≡ ofWait (ownerAwaited (ownerOf t)) w) ⊎ (ofWait (heirAwaited (kindOf t) (ownerOf t)) w ≡ none)
+    go : (w : Option Wait) → (ofWait (heirAwaited t) w ≡ ofWait (ownerAwaited t) w) ⊎ (ofWait (heirAwaited t) w ≡ none)
     go none = inr refl
     go (some w) = heir-or t (w .on)
 
@@ -67,7 +67,7 @@ lend-next t i j e = elim (lend-or t i) [ inl q ↦ sym q ∙ e | inr q ↦ none-
 
 module _ (t : Tables) (F : Facts t) where
   -- the owner of what is awaited is a task
-  pub awaited-owner : (a : Awaited) (o : ℕ) → ownerAwaited (ownerOf t) a ≡ some o → o < taskCount t
+  pub awaited-owner : (a : Awaited) (o : ℕ) → ownerAwaited t a ≡ some o → o < taskCount t
   awaited-owner a o e = let r = owner-awaited t a o e in F .owners (r .0) o (r .1)
 
   -- a wait leads to a task, the waiter is a task, and every chain of waits ends
@@ -75,7 +75,7 @@ module _ (t : Tables) (F : Facts t) where
   unfolding next
   next-ended = record {
     ends = F .ends;
-    to = λ i j e. (let r = of-wait (ownerAwaited (ownerOf t)) (waitOf t i) j e in awaited-owner (r .0) j (r .1));
+    to = λ i j e. (let r = of-wait (ownerAwaited t) (waitOf t i) j e in awaited-owner (r .0) j (r .1));
     of = λ i j e. elim (decLt i (taskCount t)) [
       | yes h ↦ h
       | no h ↦ none-some (next-none t i (wait-out t (F .wait-column) i (omega arith))) e
@@ -90,25 +90,25 @@ module _ (t : Tables) (F : Facts t) where
   }
 
   -- the fuel cuts no chain
-  pub chain-whole : (a : Awaited) → Chain (next t) (ownerAwaited (ownerOf t) a) (chainOf t a)
+  pub chain-whole : (a : Awaited) → Chain (next t) (ownerAwaited t a) (chainOf t a)
   unfolding chainOf
-  chain-whole a = walk-is-chain next-ended (ownerAwaited (ownerOf t) a) (awaited-owner a)
+  chain-whole a = walk-is-chain next-ended (ownerAwaited t a) (awaited-owner a)
 
   -- what nobody owns has no chain, so a wait for it closes no ring
-  pub ring-none : (r : ℕ) (a : Awaited) → ownerAwaited (ownerOf t) a ≡ none → closesRing t r a ≡ false
+  pub ring-none : (r : ℕ) (a : Awaited) → ownerAwaited t a ≡ none → closesRing t r a ≡ false
   unfolding chainOf occ
   ring-none r a e = rw (e, walk-none (next t) (taskCount t)) refl
 
   pub links-below : (r : ℕ) (a : Awaited) → r < taskCount t → linksOf t r a < taskCount t
   unfolding chainOf
-  links-below r a h = walk-short next-ended r (ownerAwaited (ownerOf t) a) h (awaited-owner a)
+  links-below r a h = walk-short next-ended r (ownerAwaited t a) h (awaited-owner a)
 
   -- "1 to 15": the one bound here that depends on how many tasks there may be
   pub links-at-most : (r : ℕ) (a : Awaited) → r < taskCount t → linksOf t r a ≤ 15
   links-at-most r a h = omega (arith, links-below r a h, F .few-tasks)
 
   -- and at least 1: the owner, which is not the caller, stands on the chain
-  pub links-at-least : (r : ℕ) (a : Awaited) (o : ℕ) → ownerAwaited (ownerOf t) a ≡ some o → (o ≡ r → ⊥) → 1 ≤ linksOf t r a
+  pub links-at-least : (r : ℕ) (a : Awaited) (o : ℕ) → ownerAwaited t a ≡ some o → (o ≡ r → ⊥) → 1 ≤ linksOf t r a
   unfolding chainOf walk before
   links-at-least r a o e n = rw e (go (taskCount t) (omega (arith, awaited-owner a o e)))
     where

@@ -14,16 +14,16 @@ use Rattle.rules.specs.Sizes.{levels, inheriting}
 use Rattle.rules.specs.Tables.{Awaited, mutexOf, semOf, time, awaitedKind, awaitedObject, Wait, Tables, taskCount, priorityOf, waitOf, kindOf, ownerOf}
 
 -- the owner of what is awaited: a mutex has one, of whatever kind it is
-unfoldable pub ownerAwaited : (ℕ → Option ℕ) → Awaited → Option ℕ
-ownerAwaited owner (mutexOf m) = owner m
-ownerAwaited owner (semOf k) = none
-ownerAwaited owner time = none
+unfoldable pub ownerAwaited : Tables → Awaited → Option ℕ
+ownerAwaited t (mutexOf m) = ownerOf t m
+ownerAwaited t (semOf k) = none
+ownerAwaited t time = none
 
 -- who is lent the level of a task that waits for it: the owner of an inheriting mutex
-unfoldable pub heirAwaited : (ℕ → ℕ) → (ℕ → Option ℕ) → Awaited → Option ℕ
-heirAwaited kind owner (mutexOf m) = cond (eqb (kind m) inheriting) (owner m) none
-heirAwaited kind owner (semOf k) = none
-heirAwaited kind owner time = none
+unfoldable pub heirAwaited : Tables → Awaited → Option ℕ
+heirAwaited t (mutexOf m) = cond (eqb (kindOf t m) inheriting) (ownerOf t m) none
+heirAwaited t (semOf k) = none
+heirAwaited t time = none
 
 -- whom a wait leads to, by what is awaited
 unfoldable pub ofWait : (Awaited → Option ℕ) → Option Wait → Option ℕ
@@ -32,11 +32,11 @@ ofWait f (some w) = f (w .on)
 
 -- the owner of what i waits for
 unfoldable pub next : Tables → ℕ → Option ℕ
-next t i = ofWait (ownerAwaited (ownerOf t)) (waitOf t i)
+next t i = ofWait (ownerAwaited t) (waitOf t i)
 
 -- who is lent the level of i
 unfoldable pub lends : Tables → ℕ → Option ℕ
-lends t i = ofWait (heirAwaited (kindOf t) (ownerOf t)) (waitOf t i)
+lends t i = ofWait (heirAwaited t) (waitOf t i)
 
 -- document 01's term "level": the most urgent own priority among i and all tasks whose chain of waits on inheriting mutexes leads to i
 -- ("The definition follows the chain from waiter to owner as far as it goes."; LevelLaws has its recursive wording)
@@ -46,7 +46,7 @@ levelIn t = leastLeading (taskCount t) (lends t) (priorityOf t)
 -- document 01's term "chain of a mutex": "Its owner, then the owner of the mutex for which that task waits, and so on, plain mutexes
 -- counted too. It ends at a task that waits for no mutex". The fuel is the number of tasks: it cuts no chain of a sound state (LevelLaws).
 unfoldable pub chainOf : Tables → Awaited → List ℕ
-chainOf t a = walk (taskCount t) (next t) (ownerAwaited (ownerOf t) a)
+chainOf t a = walk (taskCount t) (next t) (ownerAwaited t a)
 
 -- document 01's term "links": "the tasks on this chain other than the caller", which ends before the caller
 abbrev pub linksOf : Tables → ℕ → Awaited → ℕ

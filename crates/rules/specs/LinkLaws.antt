@@ -33,23 +33,23 @@ use Rattle.rules.specs.RefusalLaws.{step-by}
 -- the owner of what may be awaited
 abbrev ownerIn : Tables → Option Awaited → Option ℕ
 ownerIn t none = none
-ownerIn t (some a) = ownerAwaited (ownerOf t) a
+ownerIn t (some a) = ownerAwaited t a
 
-next-in : (t : Tables) (w : Option Wait) → ofWait (ownerAwaited (ownerOf t)) w ≡ ownerIn t (awaitedIn w)
+next-in : (t : Tables) (w : Option Wait) → ofWait (ownerAwaited t) w ≡ ownerIn t (awaitedIn w)
 unfolding ofWait awaitedIn
 next-in t none = refl
 next-in t (some w) = refl
 
 -- the tasks on a chain are the owners of the objects that it passes, one by one
-owners-from : (t : Tables) (f : ℕ) (o : Option Awaited) → map (ownerAwaited (ownerOf t)) (objectsFrom f t o) ≡ map some (walk f (next t) (ownerIn t o))
+owners-from : (t : Tables) (f : ℕ) (o : Option Awaited) → map (ownerAwaited t) (objectsFrom f t o) ≡ map some (walk f (next t) (ownerIn t o))
 unfolding objectsFrom walk behindOwner next
 owners-from t zero o = refl
 owners-from t (suc f) none = refl
-owners-from t (suc f) (some a) = go (owners-from t f) (ownerAwaited (ownerOf t) a) refl
+owners-from t (suc f) (some a) = go (owners-from t f) (ownerAwaited t a) refl
   where
-    go : ((o : Option Awaited) → map (ownerAwaited (ownerOf t)) (objectsFrom f t o) ≡ map some (walk f (next t) (ownerIn t o))) → (q : Option ℕ) → ownerAwaited (ownerOf t) a ≡ q → map (ownerAwaited (ownerOf t)) (behindOwner t a (objectsFrom f t) q) ≡ map some (walk (suc f) (next t) q)
+    go : ((o : Option Awaited) → map (ownerAwaited t) (objectsFrom f t o) ≡ map some (walk f (next t) (ownerIn t o))) → (q : Option ℕ) → ownerAwaited t a ≡ q → map (ownerAwaited t) (behindOwner t a (objectsFrom f t) q) ≡ map some (walk (suc f) (next t) q)
     go rest none e = refl
-    go rest (some i) e = ap (λ x. x ∷ map (ownerAwaited (ownerOf t)) (objectsFrom f t (awaitedIn (waitOf t i)))) e
+    go rest (some i) e = ap (λ x. x ∷ map (ownerAwaited t) (objectsFrom f t (awaitedIn (waitOf t i)))) e
         ∙ ap (λ l. some i ∷ l) (rest (awaitedIn (waitOf t i)) ∙ ap (λ q. map some (walk f (next t) q)) (sym (next-in t (waitOf t i))))
 
 -- the tasks that own something
@@ -73,21 +73,21 @@ in-named (some j ∷ l) zero i e = rw (some-same e) (occ-head i (named l))
 in-named (some j ∷ l) (suc m) i e = omega (arith, in-named l m i e)
 
 module _ (t : Tables) (F : Facts t) (a : Awaited) where
-  pub owners-passed : map (ownerAwaited (ownerOf t)) (objectsOf t a) ≡ map some (chainOf t a)
+  pub owners-passed : map (ownerAwaited t) (objectsOf t a) ≡ map some (chainOf t a)
   unfolding chainOf
   owners-passed = owners-from t (taskCount t) (some a)
 
   pub as-many : length (objectsOf t a) ≡ length (chainOf t a)
-  as-many = sym (length-map (objectsOf t a) (ownerAwaited (ownerOf t))) ∙ ap length owners-passed ∙ length-map (chainOf t a) some
+  as-many = sym (length-map (objectsOf t a) (ownerAwaited t)) ∙ ap length owners-passed ∙ length-map (chainOf t a) some
 
   -- the objects that a chain passes are distinct: an object has one owner, and no task stands on a chain twice
   pub objects-distinct : (i j : ℕ) → i < length (objectsOf t a) → j < length (objectsOf t a) → getD (objectsOf t a) i time ≡ getD (objectsOf t a) j time → i ≡ j
   objects-distinct i j h k e = one-place (chainOf t a) (distinct (chain-whole t F a)) i j (omega (arith, as-many)) (omega (arith, as-many))
-      (some-same (sym (owner-at i h) ∙ ap (ownerAwaited (ownerOf t)) e ∙ owner-at j k))
+      (some-same (sym (owner-at i h) ∙ ap (ownerAwaited t) e ∙ owner-at j k))
     where
-      owner-at : (i : ℕ) → i < length (objectsOf t a) → ownerAwaited (ownerOf t) (getD (objectsOf t a) i time) ≡ some (getD (chainOf t a) i 0)
-      owner-at i h = sym (List·getD-map (ownerAwaited (ownerOf t)) (objectsOf t a) i time)
-          ∙ read-any (map (ownerAwaited (ownerOf t)) (objectsOf t a)) i (ownerAwaited (ownerOf t) time) (some 0) (omega (arith, length-map (objectsOf t a) (ownerAwaited (ownerOf t))))
+      owner-at : (i : ℕ) → i < length (objectsOf t a) → ownerAwaited t (getD (objectsOf t a) i time) ≡ some (getD (chainOf t a) i 0)
+      owner-at i h = sym (List·getD-map (ownerAwaited t) (objectsOf t a) i time)
+          ∙ read-any (map (ownerAwaited t) (objectsOf t a)) i (ownerAwaited t time) (some 0) (omega (arith, length-map (objectsOf t a) (ownerAwaited t)))
           ∙ ap (λ l. getD l i (some 0)) owners-passed ∙ List·getD-map some (chainOf t a) i 0
 
   -- so a chain has no more tasks than there are objects with owners
@@ -95,13 +95,13 @@ module _ (t : Tables) (F : Facts t) (a : Awaited) where
   unfolding next
   chain-few = omega (arith, few-named (t .mutexes .owners), embedded (named (t .mutexes .owners)) (chainOf t a) (distinct (chain-whole t F a)) (λ y m. owns y m))
     where
-      own : (b : Awaited) (y : ℕ) → ownerAwaited (ownerOf t) b ≡ some y → 1 ≤ occ y (named (t .mutexes .owners))
+      own : (b : Awaited) (y : ℕ) → ownerAwaited t b ≡ some y → 1 ≤ occ y (named (t .mutexes .owners))
       own b y e = let r = owner-awaited t b y e in in-named (t .mutexes .owners) (r .0) y (r .1)
 
       owns : (y : ℕ) → 1 ≤ occ y (chainOf t a) → 1 ≤ occ y (named (t .mutexes .owners))
       owns y m = elim (from-last (mem-from (chain-whole t F a) y m)) [
         | inl e ↦ own a y e
-        | inr r ↦ (let q = of-wait (ownerAwaited (ownerOf t)) (waitOf t (r .0)) y (r .2) in own (q .0) y (q .1))
+        | inr r ↦ (let q = of-wait (ownerAwaited t) (waitOf t (r .0)) y (r .2) in own (q .0) y (q .1))
       ]
 
   -- and so are links

@@ -2,7 +2,7 @@
 use mathlib.Core.List.{List, [], _∷_}
 use mathlib.Core.Option.{Option, none, some}
 use Prim.Native.Nat.{ℕ, zero, suc}
-use Rattle.rules.specs.Tables.{Awaited, Wait, Tables, taskCount, waitOf, ownerOf}
+use Rattle.rules.specs.Tables.{Awaited, Wait, Tables, taskCount, waitOf}
 use Rattle.rules.specs.Levels.{ownerAwaited}
 
 unfoldable pub awaitedIn : Option Wait → Option Awaited
@@ -18,7 +18,7 @@ behindOwner t a rest (some i) = a ∷ rest (awaitedIn (waitOf t i))
 unfoldable pub objectsFrom : ℕ → Tables → Option Awaited → List Awaited
 objectsFrom zero t o = []
 objectsFrom (suc f) t none = []
-objectsFrom (suc f) t (some a) = behindOwner t a (objectsFrom f t) (ownerAwaited (ownerOf t) a)
+objectsFrom (suc f) t (some a) = behindOwner t a (objectsFrom f t) (ownerAwaited t a)
 
 abbrev pub objectsOf : Tables → Awaited → List Awaited
 objectsOf t a = objectsFrom (taskCount t) t (some a)

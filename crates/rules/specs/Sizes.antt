@@ -5,7 +5,7 @@ use Prim.Native.Nat.{ℕ}
 abbrev pub maxTasks : ℕ
 maxTasks = 16
 
--- how many tasks a record and its lists have places for: no fewer than there may be tasks
+-- how many tasks a record has places for, no fewer than there may be
 abbrev pub taskPlaces : ℕ
 taskPlaces = 16
 

@@ -17,7 +17,7 @@ use Rattle.chains.specs.Chain.{From, here, on}
 use Rattle.chains.specs.ChainLaws.{from-some}
 use Rattle.chains.specs.LeastLaws.{leading-att}
 use Rattle.rules.specs.Sizes.{levels}
-use Rattle.rules.specs.Tables.{Awaited, mutexOf, semOf, time, awaitedKind, awaitedObject, isSleep, Wait, Tables, taskCount, priorityOf, waitOf, kindOf, ownerOf}
+use Rattle.rules.specs.Tables.{Awaited, mutexOf, semOf, time, awaitedKind, awaitedObject, isSleep, Wait, Tables, taskCount, priorityOf, waitOf}
 use Rattle.rules.specs.Levels.{heirAwaited, ofWait, lends, levelIn, sameAwaited, waitIsFor, awaits, waitersOf, bestWaiter}
 use Rattle.rules.specs.State.{State, withTables}
 use Rattle.rules.specs.Effect.{ended, isDue, outcomeDue}
@@ -65,13 +65,13 @@ awaited-blocked t a none b e = absurd (clash e refl)
 awaited-blocked t a (some w) b e = subst (Unavailable t) (same-awaited (w .on) a e) b
 
 -- and lends to whom a wait for a lends
-pub awaits-lends : (t : Tables) (a : Awaited) (i : ℕ) → awaits t a i ≡ true → lends t i ≡ heirAwaited (kindOf t) (ownerOf t) a
+pub awaits-lends : (t : Tables) (a : Awaited) (i : ℕ) → awaits t a i ≡ true → lends t i ≡ heirAwaited t a
 unfolding lends ofWait waitIsFor
 awaits-lends t a i e = go (waitOf t i) e
   where
-    go : (w : Option Wait) → waitIsFor w a ≡ true → ofWait (heirAwaited (kindOf t) (ownerOf t)) w ≡ heirAwaited (kindOf t) (ownerOf t) a
+    go : (w : Option Wait) → waitIsFor w a ≡ true → ofWait (heirAwaited t) w ≡ heirAwaited t a
     go none e = absurd (clash e refl)
-    go (some w) e = ap (heirAwaited (kindOf t) (ownerOf t)) (same-awaited (w .on) a e)
+    go (some w) e = ap (heirAwaited t) (same-awaited (w .on) a e)
 
 pub not-due : isDue none ≡ false
 unfolding isDue
