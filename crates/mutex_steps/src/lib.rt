@@ -7,7 +7,6 @@ use record::ON_MUTEX;
 use record::Out;
 use record::State;
 use record::TASKS;
-use record::leads;
 use record::reads;
 use replies::answers;
 use replies::refusals;

@@ -1,7 +1,6 @@
 // The state record, requests and answers.
 pub mod answers;
 mod first;
-pub mod leads;
 pub mod reads;
 
 pub use first::fresh;

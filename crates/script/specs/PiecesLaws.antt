@@ -19,7 +19,7 @@ use Rattle.text.specs.Lines.{lines, lineFrom, lineEnd}
 use Rattle.text.specs.Place.{room, putBytes}
 use Rattle.text.specs.PlaceLaws.{put-laid, put-kept, length-put}
 use Rattle.record.specs.DemandRecord.{freshRecord}
-use Rattle.syntax.specs.Form.{longest}
+use Rattle.words.specs.Form.{longest}
 use Rattle.script_lines.specs.LineRun.{awaiting}
 use Rattle.script.specs.WholeLog.{wholeLog}
 use Rattle.script.specs.Session.{foundTaken, turned, Stand, fedAt, carryAt, lineAt, turnAt, standAt, stopAt, through, pieceRun, lastArrivals, leftArrivals, endRun, endMemory, freshSession, standFor}

@@ -12,7 +12,7 @@ use Rattle.lists.specs.TestLaws.{which}
 use Rattle.arrive.specs.FeedLaws.{fed-line, fed-more}
 use Rattle.text.specs.Lines.{lf, lineEnd}
 use Rattle.text.specs.CutLaws.{upTo-most}
-use Rattle.syntax.specs.Form.{longest}
+use Rattle.words.specs.Form.{longest}
 use Rattle.script.specs.WholeLog.{wholeLog}
 use Rattle.script.specs.Session.{turned, Stand, turnAt, standAt, through, pieceRun, leftArrivals, endRun, endMemory, standFor}
 use Rattle.script.specs.SessionLaws.{turn-next, stand-next}

@@ -17,9 +17,9 @@ use Rattle.text.specs.Place.{room}
 use Rattle.text.specs.PlaceLaws.{put-laid, length-put, take-laid}
 use Rattle.record.specs.declared.State.{State}
 use Rattle.text.specs.Ascii.{ascii}
-use Rattle.syntax.specs.Form.{sameBytes}
+use Rattle.words.specs.Form.{sameBytes}
 use Rattle.log_lines.specs.LogLine.{logBytes, badBytes}
-use Rattle.syntax.specs.Form.{headerBytes}
+use Rattle.words.specs.Form.{headerBytes}
 use Rattle.script_lines.specs.LineRun.{awaiting, running, headLog}
 use Rattle.log_lines.specs.LogLineLaws.{line-room}
 use Rattle.script.specs.Session.{lineLog, lineTaken, takenMemory, lineIn, foundTaken, foundMemory, turned, Stand, fedAt, carryAt, lineAt, freeOf, turnAt, standAt}

@@ -10,7 +10,7 @@ use Rattle.arrive.specs.Feed.{fed, carryAfter, lastFound, arrivalsOf}
 use Rattle.arrive.specs.declared.Fed.{Fed}
 use Rattle.record.specs.DemandRecord.{freshRecord}
 use Rattle.record.specs.declared.State.{State}
-use Rattle.syntax.specs.Form.{stepOn}
+use Rattle.words.specs.Form.{stepOn}
 use Rattle.script_lines.specs.LineRun.{awaiting, running, lineAnswered, lineFor, headLog, headStage}
 use Rattle.script.specs.declared.session.Session.{Session}
 use Rattle.script.specs.declared.session.Moved.{Moved}

@@ -16,10 +16,10 @@ use Rattle.text.specs.Fields.{fields}
 use Rattle.record.specs.DemandRecord.{freshRecord}
 use Rattle.record.specs.declared.State.{State}
 use Rattle.text.specs.Ascii.{ascii}
-use Rattle.syntax.specs.Form.{longest, words, sameBytes, numbersOf, madeBy, madeFrom, stepIn, stepOn}
+use Rattle.words.specs.Form.{longest, words, sameBytes, numbersOf, madeBy, madeFrom, stepIn, stepOn}
 use Rattle.log_lines.specs.LogLine.{logBytes, badBytes}
-use Rattle.syntax.specs.Form.{headerBytes}
-use Rattle.syntax.specs.SameLaws.{same-length}
+use Rattle.words.specs.Form.{headerBytes}
+use Rattle.words.specs.SameLaws.{same-length}
 use Rattle.script_lines.specs.LineRun.{awaiting, running, over, lineAnswered, lineFor, headLog, headStage}
 use Rattle.script.specs.WholeLog.{logFrom, logOf}
 use Rattle.script.specs.Session.{lineLog, lineState, lineStage, lineIn, lastArrivals}

@@ -8,9 +8,9 @@ use Rattle.rules.specs.Step.{Step}
 use Rattle.rules.specs.Log.{Call}
 use Rattle.record.specs.DemandRecord.{freshRecord}
 use Rattle.record.specs.declared.State.{State}
-use Rattle.syntax.specs.Form.{sameBytes, stepOn}
+use Rattle.words.specs.Form.{sameBytes, stepOn}
 use Rattle.log_lines.specs.LogLine.{logBytes, badBytes}
-use Rattle.syntax.specs.Form.{headerBytes}
+use Rattle.words.specs.Form.{headerBytes}
 use Rattle.script_lines.specs.LineRun.{lineAnswered, lineFor}
 
 -- "one line for each script line": each is run on the record that the one before it left

@@ -11,7 +11,7 @@ use Rattle.record.specs.StepRecord.{stays}
 use Rattle.record.specs.DemandRecord.{freshRecord, inMemory, callRecord, eventsRecord, afterRecord, answerRecord}
 use Rattle.record.specs.DemandRecordLaws.{demand-3-record}
 use Rattle.record.specs.declared.State.{State}
-use Rattle.syntax.specs.Form.{stepOn}
+use Rattle.words.specs.Form.{stepOn}
 use Rattle.script_lines.specs.LineRun.{lineAnswered}
 use Rattle.script.specs.WholeLog.{recordFrom, withCall, callsIn}
 

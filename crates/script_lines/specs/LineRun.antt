@@ -11,9 +11,9 @@ use Rattle.record.specs.DemandRecord.{requestFor, standingIn}
 use Rattle.record.specs.declared.State.{State}
 use Rattle.record.specs.declared.Out.{Out}
 use Rattle.record.specs.declared.Answer.{Answer}
-use Rattle.syntax.specs.Form.{sameBytes, stepOn}
+use Rattle.words.specs.Form.{sameBytes, stepOn}
 use Rattle.log_lines.specs.LogLine.{lineBytes, logBytes, badBytes}
-use Rattle.syntax.specs.Form.{headerBytes}
+use Rattle.words.specs.Form.{headerBytes}
 use Rattle.script_lines.specs.declared.run.Ran.{Ran}
 use Rattle.script_lines.specs.declared.run.Headed.{Headed}
 

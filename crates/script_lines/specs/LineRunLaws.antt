@@ -28,11 +28,11 @@ use Rattle.record.specs.declared.State.{State}
 use Rattle.record.specs.declared.Out.{Out}
 use Rattle.record.specs.declared.Answer.{Answer}
 use Rattle.record.specs.declared.Request.{Request}
-use Rattle.syntax.specs.Form.{sameBytes, stepOn}
+use Rattle.words.specs.Form.{sameBytes, stepOn}
 use Rattle.log_lines.specs.LogLine.{lineBytes, logBytes, badBytes}
-use Rattle.syntax.specs.Form.{headerBytes}
-use Rattle.syntax.specs.Reading.{readingFor}
-use Rattle.syntax.specs.declared.Reading.the-variants.{Made, Malformed}
+use Rattle.words.specs.Form.{headerBytes}
+use Rattle.words.specs.Reading.{readingFor}
+use Rattle.words.specs.declared.Reading.the-variants.{Made, Malformed}
 use Rattle.script_lines.specs.LineRun.{awaiting, running, over, lineAnswered, lineFor, ranWith, reported, ranLine, memoryLine, headLog, headStage, headed}
 use Rattle.script_lines.specs.declared.run.Ran.{Ran}
 

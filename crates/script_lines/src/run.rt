@@ -3,14 +3,14 @@ ghost use mathlib.Core.Path.{_≡_};
 ghost use Rattle.text.specs.Place.{putBytes};
 ghost use Rattle.record.specs.StepRecord.{stays};
 ghost use Rattle.record.specs.DemandRecord.{standingIn};
-ghost use Rattle.syntax.specs.Form.{stepOn};
+ghost use Rattle.words.specs.Form.{stepOn};
 ghost use Rattle.log_lines.specs.LogLine.{lineBytes};
 ghost use Rattle.script_lines.specs.LineRun.{lineAnswered, ranWith, reported, ranLine, memoryLine, headed, memoryHead};
 use record::Answer;
 use record::Out;
 use record::State;
-use syntax::Reading;
 use text::place::Put;
+use words::Reading;
 
 // Where a script stands: its first line is awaited; steps are run; its first line was bad and nothing more is written.
 pub const AWAITING: u8 = 0;
@@ -98,7 +98,7 @@ pub fn run_header(line: &[u8], log: &mut [u8]) -> Headed
     ensures answer { λ r. ⌜ r ≡ headed (now (line .entry)) (now (log .entry)) ⌝ }
     ensures memory { λ r. ⌜ now (log .exit) ≡ memoryHead (now (line .entry)) (now (log .entry)) ⌝ }
 {
-    if syntax::same(line, b"kernel\t1") {
+    if words::same(line, b"kernel\t1") {
         let Put::Next(n) = log_lines::write_header(log) else {
             return Headed {
                 stage: AWAITING,

@@ -7,7 +7,6 @@ use record::FOREVER;
 use record::NONE;
 use record::State;
 use record::TASKS;
-use record::leads;
 use task_lists::TaskList;
 
 // The ready order by the new levels: those whose level changed, and then the woken ones, by id at the tail of their level.

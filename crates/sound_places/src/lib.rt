@@ -8,7 +8,6 @@ use record::NONE;
 use record::State;
 use record::TASKS;
 use record::Tasks;
-use record::leads;
 use record::reads;
 
 // Task `i` stands in one place: `waits` counts the waiting, `all` the waiting and the ready.

@@ -8,7 +8,7 @@ use Rattle.text.specs.Fields.{fields}
 use Rattle.decimal.specs.Parse.{withDigit, withDigits, parsed}
 use Rattle.rules.specs.Step.{Step, task, sem, start, lock, sleep, tick, outcome}
 use Rattle.text.specs.Ascii.{ascii}
-use Rattle.syntax.specs.Form.{alone, withOne, withTwo, words, sameBytes, madeBy, withNumber, numbersOf, madeFrom, stepIn, stepOn}
+use Rattle.words.specs.Form.{alone, withOne, withTwo, words, sameBytes, madeBy, withNumber, numbersOf, madeFrom, stepIn, stepOn}
 use Prim.Native.String.{String}
 
 pub record Example : Type 0 where

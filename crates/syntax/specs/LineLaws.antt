@@ -17,11 +17,11 @@ use Rattle.text.specs.FieldsLaws.{fields-next, fields-last, field-first}
 use Rattle.decimal.specs.Parse.{parsed}
 use Rattle.decimal.specs.declared.Number.{Number}  -- keep
 use Rattle.decimal.specs.declared.Number.the-variants.{Value, Bad}  -- keep
-use Rattle.syntax.specs.Form.{longest, mostNumbers, withNumber, numbersOf, madeFrom, stepIn, stepOn}
+use Rattle.words.specs.Form.{longest, mostNumbers, withNumber, numbersOf, madeFrom, stepIn, stepOn}
 use Rattle.syntax.specs.Unread.{unread, behindThese, madeWith}
-use Rattle.syntax.specs.Reading.{readingFor, reading}
+use Rattle.words.specs.Reading.{readingFor, reading}
 use Rattle.syntax.specs.WrittenLaws.{made-many}
-use Rattle.syntax.specs.declared.Reading.the-variants.{Malformed}  -- keep
+use Rattle.words.specs.declared.Reading.the-variants.{Malformed}  -- keep
 
 -- the field that begins at a place, and those that are left where it ends
 fields-from : (line : List ℕ) (at : ℕ) → fields (drop at line) ≡ upTo tab (drop at line) ∷ unread line (findFrom tab line at)

@@ -7,7 +7,7 @@ use lib.Dec.{ltb}
 use lib.ListN.{length, drop}
 use Rattle.text.specs.Fields.{fields}
 use Rattle.rules.specs.Step.{Step}
-use Rattle.syntax.specs.Form.{numbersOf, madeFrom}
+use Rattle.words.specs.Form.{numbersOf, madeFrom}
 
 -- the fields that are left where one ends: those behind its tab, and none at the line's end
 unfoldable pub unread : List ℕ → ℕ → List (List ℕ)

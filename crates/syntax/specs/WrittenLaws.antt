@@ -21,10 +21,10 @@ use Rattle.decimal.specs.declared.Number.{Number}  -- keep
 use Rattle.decimal.specs.declared.Number.the-variants.{Value, Bad}  -- keep
 use Rattle.rules.specs.Step.{Step, task, mutex, sem, start, lock, unlock, pend, post, flush, sleep, yield, hold, free, tick, level, outcome}
 use Rattle.text.specs.Ascii.{ascii}
-use Rattle.syntax.specs.Form.{longest, mostNumbers, Word, alone, withOne, withTwo, words, sameBytes, madeBy, withNumber, numbersOf, madeFrom, stepIn, stepOn}
-use Rattle.syntax.specs.SameLaws.{same-equal}
-use Rattle.syntax.specs.FormLaws.{made-back, Each, end, _also_}
-use Rattle.syntax.specs.Written.{nameOf, numbersIn, rowOf, lineOf, Within, NumbersFit}
+use Rattle.words.specs.Form.{longest, mostNumbers, Word, alone, withOne, withTwo, words, sameBytes, madeBy, withNumber, numbersOf, madeFrom, stepIn, stepOn}
+use Rattle.words.specs.SameLaws.{same-equal}
+use Rattle.words.specs.FormLaws.{made-back, Each, end, _also_}
+use Rattle.words.specs.Written.{nameOf, numbersIn, rowOf, lineOf, Within, NumbersFit}
 
 -- rows without a tab, joined by tabs and cut again
 free-tail : (c : ℕ) (p : List ℕ) → Free tab (c ∷ p) → (eqb c tab ≡ false) × Free tab p

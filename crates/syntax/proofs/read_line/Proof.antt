@@ -6,7 +6,7 @@ use native.Mathlib.Numerals.{add-one}
 use native.Mathlib.Omega.{arith}
 use lib.ListN.{length, take, length-set}
 use lib.Seq.{take-suc-set, length-take-le}
-use Rattle.syntax.specs.Form.{mostNumbers, stepOn}
+use Rattle.words.specs.Form.{mostNumbers, stepOn}
 use Rattle.syntax.specs.Unread.{madeWith}
 use Rattle.syntax.specs.LineLaws.{line-long, line-name, line-end, line-many, line-within, line-bad, line-number}
 use Rattle.syntax.proofs.read_line.Statement.{statement}
@@ -85,21 +85,13 @@ array-share-prefix-values c = search needs
 slice-aggregate-numbers : tie.Need-slice-aggregate-numbers Inv-loop μ-loop
 slice-aggregate-numbers c = let l = c .before .before .loop in sym (length-take-le (l .n) (l .values) (omega arith))
 
-short-word-requires : tie.Need-short-word-requires Inv-loop μ-loop
-short-word-requires c κs = search needs
+read-word-requires : tie.Need-read-word-requires Inv-loop μ-loop
+read-word-requires c κs = search needs
 
 returns-4 : tie.Need-returns-4 Inv-loop μ-loop
 returns-4 c =
-    let end = c .before .before .before in
-    c .short-word .ensures ∙ line-end _ _ _ _ (end .before .loop .inv .2) (end .loop-test .left)
-
-long-word-requires : tie.Need-long-word-requires Inv-loop μ-loop
-long-word-requires c κs = search needs
-
-returns-5 : tie.Need-returns-5 Inv-loop μ-loop
-returns-5 c =
-    let end = c .before .before .before in
-    c .long-word .ensures ∙ line-end _ _ _ _ (end .before .loop .inv .2) (end .loop-test .left)
+    let end = c .before .before in
+    c .read-word .ensures ∙ line-end _ _ _ _ (end .before .loop .inv .2) (end .loop-test .left)
 
 pub read-line-spec : {M : Type 1} → statement M
 read-line-spec =
@@ -125,7 +117,5 @@ read-line-spec =
     loop-again
     array-share-prefix-values
     slice-aggregate-numbers
-    short-word-requires
-    returns-4
-    long-word-requires
-    returns-5)
+    read-word-requires
+    returns-4)

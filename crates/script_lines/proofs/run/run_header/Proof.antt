@@ -2,7 +2,7 @@
 use mathlib.Core.Path.{ap, sym, _∙_}
 use Rattle.text.specs.Place.{putAnswer, putBytes}
 use Rattle.text.specs.Ascii.{ascii}
-use Rattle.syntax.specs.Form.{headerBytes}
+use Rattle.words.specs.Form.{headerBytes}
 use Rattle.script_lines.specs.LineRun.{memoryHead}
 use Rattle.script_lines.specs.LineRunLaws.{head-good, head-bad, headed-next, headed-full}
 use borrow.Author.Needs.{needs}
