@@ -46,5 +46,5 @@ fn check(s: State) -> bool
     if !task_list_checks::ascending(s.ready, levels) {
         return false;
     }
-    sound_places::phase_in(s)
+    sound_phase::phase_in(s)
 }

@@ -1,103 +1,18 @@
 // Is a record tidy: numbers of things in range, unused places and absent fields as in the fresh record?
 ghost use mathlib.Core.Path.{_≡_};
 ghost use Prim.Native.Nat.{_<_};
-ghost use Rattle.rules.specs.Sizes.{taskPlaces, maxMutexes, maxSemaphores};
-ghost use Rattle.record.specs.SoundRecord.{usedTaskb, unusedTaskb, taskPlaceb, tasksTidyb, idb, mutexPlaceb, mutexesTidyb, semPlaceb, semaphoresTidyb, taskListTidyb, tidyb};
+ghost use Rattle.rules.specs.Sizes.{maxMutexes, maxSemaphores};
+ghost use Rattle.record.specs.SoundRecord.{idb, mutexPlaceb, mutexesTidyb, semPlaceb, semaphoresTidyb, taskListTidyb, tidyb};
 use record::MAX_MUTEXES;
 use record::MAX_SEMAPHORES;
 use record::MUTEXES;
 use record::Mutexes;
-use record::NO_WAIT;
 use record::NONE;
-use record::ON_MUTEX;
-use record::ON_SEMAPHORE;
-use record::ON_TIME;
 use record::SEMAPHORES;
 use record::Semaphores;
 use record::State;
 use record::TASK_PLACES;
-use record::TASKS;
-use record::Tasks;
 use task_lists::TaskList;
-
-// The places of a task that is there: an object only for a wait on one, a due time only for a timed wait.
-fn used_task(t: Tasks, i: usize) -> bool
-    requires { ⌜ i < taskPlaces ⌝ }
-    ensures { λ r. ⌜ r ≡ usedTaskb t i ⌝ }
-{
-    let kind = t.wait[i];
-    if ON_TIME < kind {
-        return false;
-    }
-    if t.object[i] != 0 {
-        if kind != ON_MUTEX {
-            if kind != ON_SEMAPHORE {
-                return false;
-            }
-        }
-    }
-    let timed = t.timed[i];
-    if 1 < timed {
-        return false;
-    }
-    if timed != 0 {
-        if kind == NO_WAIT {
-            return false;
-        }
-        return true;
-    }
-    t.due[i] == 0
-}
-
-// Unused places are as in the fresh state.
-fn unused_task(t: Tasks, i: usize) -> bool
-    requires { ⌜ i < taskPlaces ⌝ }
-    ensures { λ r. ⌜ r ≡ unusedTaskb t i ⌝ }
-{
-    if t.priority[i] != 0 {
-        return false;
-    }
-    if t.level[i] != 0 {
-        return false;
-    }
-    if t.outcome[i] != 0 {
-        return false;
-    }
-    if t.wait[i] != 0 {
-        return false;
-    }
-    if t.object[i] != 0 {
-        return false;
-    }
-    if t.timed[i] != 0 {
-        return false;
-    }
-    t.due[i] == 0
-}
-
-fn task_place(t: Tasks, i: usize) -> bool
-    requires { ⌜ i < taskPlaces ⌝ }
-    ensures { λ r. ⌜ r ≡ taskPlaceb t i ⌝ }
-{
-    if i < t.n as usize {
-        return used_task(t, i);
-    }
-    unused_task(t, i)
-}
-
-fn tasks_tidy(t: Tasks) -> bool
-    ensures { λ r. ⌜ r ≡ tasksTidyb t ⌝ }
-{
-    if TASK_PLACES < t.n {
-        return false;
-    }
-    for i in 0..TASKS {
-        if !task_place(t, i) {
-            return false;
-        }
-    }
-    true
-}
 
 // An id is that of a place in the table of tasks, or none.
 fn is_id(x: u8) -> bool
@@ -176,7 +91,7 @@ fn task_list_tidy(q: TaskList) -> bool
 pub fn tidy(s: State) -> bool
     ensures { λ r. ⌜ r ≡ tidyb s ⌝ }
 {
-    if !tasks_tidy(s.tasks) {
+    if !tidy_tasks::tasks_tidy(s.tasks) {
         return false;
     }
     if !mutexes_tidy(s.mutexes) {

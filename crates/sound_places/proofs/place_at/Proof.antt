@@ -8,7 +8,7 @@ use borrow.Author.Tests.{eq-eqb, ne-eqb}
 use Rattle.lists.specs.Test.{_and_}
 use Rattle.task_lists.specs.TaskList.{keyOf}
 use Rattle.checks.specs.Checks.{placeAt}
-use Rattle.sound_places.proofs.Turns.{none-more, one-more}
+use Rattle.sound_places.proofs.Counts.{none-more, one-more}
 use Rattle.sound_places.proofs.place_at.Statement.{statement}
 use Rattle.sound_places.proofs.place_at.Tie as tie
 use Rattle.sound_places.proofs.place_at.Reads as reads

@@ -1,11 +1,11 @@
--- `sound_places::set_up_in` meets its contract. Assumes nothing.
+-- `sound_phase::set_up_in` meets its contract. Assumes nothing.
 use borrow.Author.Needs.{needs}
 use borrow.Author.Tests.{eq-eqb, ne-eqb}
 use Rattle.lists.specs.Test.{_and_}
 use Rattle.checks.specs.Checks.{setUpIn}
 use Rattle.lists.specs.LoopLaws.{test-passed, test-failed}
-use Rattle.sound_places.proofs.set_up_in.Statement.{statement}
-use Rattle.sound_places.proofs.set_up_in.Tie as tie
+use Rattle.sound_phase.proofs.set_up_in.Statement.{statement}
+use Rattle.sound_phase.proofs.set_up_in.Tie as tie
 
 returns : tie.Need-returns
 unfolding setUpIn _and_

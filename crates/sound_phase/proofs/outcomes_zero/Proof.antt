@@ -1,4 +1,4 @@
--- `sound_places::outcomes_zero` meets its contract. The loop keeps that the outcomes passed are 0. Assumes nothing.
+-- `sound_phase::outcomes_zero` meets its contract. The loop keeps that the outcomes passed are 0. Assumes nothing.
 use borrow.Author.Needs.{needs}
 use mathlib.Core.Path.{_≡_, sym}
 use mathlib.Core.Bool.{true}
@@ -7,9 +7,9 @@ use native.Mathlib.Omega.{arith}
 use borrow.Author.Tests.{eq-eqb, ne-eqb}
 use Rattle.lists.specs.Test.{allb}
 use Rattle.lists.specs.LoopLaws.{all-none, all-step, all-done, all-fails}
-use Rattle.sound_places.proofs.Turns.{grantedAt}
-use Rattle.sound_places.proofs.outcomes_zero.Statement.{statement}
-use Rattle.sound_places.proofs.outcomes_zero.Tie as tie
+use Rattle.sound_phase.proofs.Turns.{grantedAt}
+use Rattle.sound_phase.proofs.outcomes_zero.Statement.{statement}
+use Rattle.sound_phase.proofs.outcomes_zero.Tie as tie
 
 abbrev Inv-loop : tie.InvT-loop
 Inv-loop outcomes i₀ i-end i = (i ≤ i-end) × (true ≡ allb i (grantedAt outcomes))

@@ -1,10 +1,10 @@
--- `tidy::unused_task` meets its contract. Assumes nothing.
+-- `tidy_tasks::unused_task` meets its contract. Assumes nothing.
 use borrow.Author.Needs.{needs}
 use borrow.Author.Tests.{eq-eqb, ne-eqb}
 use Rattle.lists.specs.Test.{_and_}
 use Rattle.record.specs.SoundRecord.{unusedTaskb}
-use Rattle.tidy.proofs.unused_task.Statement.{statement}
-use Rattle.tidy.proofs.unused_task.Tie as tie
+use Rattle.tidy_tasks.proofs.unused_task.Statement.{statement}
+use Rattle.tidy_tasks.proofs.unused_task.Tie as tie
 
 element-copy-out-if1 : tie.Need-element-copy-out-if1
 element-copy-out-if1 c = search needs

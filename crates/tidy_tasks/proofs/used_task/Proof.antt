@@ -1,4 +1,4 @@
--- `tidy::used_task` meets its contract. Assumes nothing.
+-- `tidy_tasks::used_task` meets its contract. Assumes nothing.
 use borrow.Author.Needs.{needs}
 use mathlib.Core.Path.{_≡_, refl, sym}
 use mathlib.Core.Bool.{true}
@@ -10,10 +10,10 @@ use borrow.Author.Tests.{le-leb, lt-leb, eq-eqb, ne-eqb}
 use Rattle.lists.specs.Test.{_and_, _or_}
 use Rattle.lists.specs.TestLaws.{or-l, or-r, or-false}
 use Rattle.record.specs.SoundRecord.{usedTaskb}
-use Rattle.tidy.proofs.used_task.Statement.{statement}
-use Rattle.tidy.proofs.used_task.Tie as tie
-use Rattle.tidy.proofs.used_task.Reads as reads
-use Rattle.tidy.proofs.used_task.Lts as lts
+use Rattle.tidy_tasks.proofs.used_task.Statement.{statement}
+use Rattle.tidy_tasks.proofs.used_task.Tie as tie
+use Rattle.tidy_tasks.proofs.used_task.Reads as reads
+use Rattle.tidy_tasks.proofs.used_task.Lts as lts
 
 -- an object only for a wait on one
 object-fits : (c : lts.Joined2 reads.Pre reads.Post)

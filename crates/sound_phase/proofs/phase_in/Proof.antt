@@ -1,8 +1,8 @@
--- `sound_places::phase_in` meets its contract. Assumes nothing.
+-- `sound_phase::phase_in` meets its contract. Assumes nothing.
 use borrow.Author.Needs.{needs}
 use borrow.Author.Tests.{eq-eqb, ne-eqb}
-use Rattle.sound_places.proofs.phase_in.Statement.{statement}
-use Rattle.sound_places.proofs.phase_in.Tie as tie
+use Rattle.sound_phase.proofs.phase_in.Statement.{statement}
+use Rattle.sound_phase.proofs.phase_in.Tie as tie
 
 set-up-in-requires : tie.Need-set-up-in-requires
 set-up-in-requires c κs = search needs

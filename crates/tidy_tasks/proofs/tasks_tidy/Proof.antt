@@ -1,4 +1,4 @@
--- `tidy::tasks_tidy` meets its contract. The loop keeps that the places passed are tidy. Assumes nothing.
+-- `tidy_tasks::tasks_tidy` meets its contract. The loop keeps that the places passed are tidy. Assumes nothing.
 use borrow.Author.Needs.{needs}
 use mathlib.Core.Path.{_≡_}
 use mathlib.Core.Bool.{true}
@@ -9,8 +9,8 @@ use Rattle.lists.specs.Test.{allb, _and_}
 use Rattle.lists.specs.LoopLaws.{all-none, all-done, all-turn, all-stop}
 use Rattle.record.specs.SoundRecord.{taskPlaceb, tasksTidyb}
 use Rattle.rules.specs.Sizes.{taskPlaces}
-use Rattle.tidy.proofs.tasks_tidy.Statement.{statement}
-use Rattle.tidy.proofs.tasks_tidy.Tie as tie
+use Rattle.tidy_tasks.proofs.tasks_tidy.Statement.{statement}
+use Rattle.tidy_tasks.proofs.tasks_tidy.Tie as tie
 
 abbrev Inv-loop : tie.InvT-loop
 Inv-loop t i₀ i = (i ≤ taskPlaces) × (true ≡ allb i (taskPlaceb t))

@@ -1,4 +1,4 @@
--- `sound_places::nothing_owned` meets its contract. The loop keeps that nobody owns the mutexes passed. Assumes nothing.
+-- `sound_phase::nothing_owned` meets its contract. The loop keeps that nobody owns the mutexes passed. Assumes nothing.
 use borrow.Author.Needs.{needs}
 use mathlib.Core.Path.{_≡_, sym}
 use mathlib.Core.Bool.{true}
@@ -7,9 +7,9 @@ use native.Mathlib.Omega.{arith}
 use borrow.Author.Tests.{eq-eqb, ne-eqb}
 use Rattle.lists.specs.Test.{allb}
 use Rattle.lists.specs.LoopLaws.{all-none, all-step, all-done, all-fails}
-use Rattle.sound_places.proofs.Turns.{freeAt}
-use Rattle.sound_places.proofs.nothing_owned.Statement.{statement}
-use Rattle.sound_places.proofs.nothing_owned.Tie as tie
+use Rattle.sound_phase.proofs.Turns.{freeAt}
+use Rattle.sound_phase.proofs.nothing_owned.Statement.{statement}
+use Rattle.sound_phase.proofs.nothing_owned.Tie as tie
 
 abbrev Inv-loop : tie.InvT-loop
 Inv-loop m j₀ j-end j = (j ≤ j-end) × (true ≡ allb j (freeAt m))

@@ -1,9 +1,9 @@
--- `tidy::task_place` meets its contract. Assumes nothing.
+-- `tidy_tasks::task_place` meets its contract. Assumes nothing.
 use borrow.Author.Needs.{needs}
 use borrow.Author.Tests.{lt-ltb, le-ltb}
 use Rattle.record.specs.SoundRecord.{taskPlaceb}
-use Rattle.tidy.proofs.task_place.Statement.{statement}
-use Rattle.tidy.proofs.task_place.Tie as tie
+use Rattle.tidy_tasks.proofs.task_place.Statement.{statement}
+use Rattle.tidy_tasks.proofs.task_place.Tie as tie
 
 cast-if1 : tie.Need-cast-if1
 cast-if1 c = search needs

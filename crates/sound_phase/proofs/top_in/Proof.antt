@@ -1,8 +1,8 @@
--- `sound_places::top_in` meets its contract. Assumes nothing.
+-- `sound_phase::top_in` meets its contract. Assumes nothing.
 use borrow.Author.Needs.{needs}
 use Rattle.checks.specs.Checks.{topIn}
-use Rattle.sound_places.proofs.top_in.Statement.{statement}
-use Rattle.sound_places.proofs.top_in.Tie as tie
+use Rattle.sound_phase.proofs.top_in.Statement.{statement}
+use Rattle.sound_phase.proofs.top_in.Tie as tie
 
 key-of-requires : tie.Need-key-of-requires
 key-of-requires c κs = search needs

@@ -1,10 +1,10 @@
--- `sound_places::started_in` meets its contract. Assumes nothing.
+-- `sound_phase::started_in` meets its contract. Assumes nothing.
 use borrow.Author.Needs.{needs}
 use borrow.Author.Tests.{eq-eqb, ne-eqb}
 use Rattle.lists.specs.Test.{_and_}
 use Rattle.checks.specs.Checks.{startedIn}
-use Rattle.sound_places.proofs.started_in.Statement.{statement}
-use Rattle.sound_places.proofs.started_in.Tie as tie
+use Rattle.sound_phase.proofs.started_in.Statement.{statement}
+use Rattle.sound_phase.proofs.started_in.Tie as tie
 
 returns : tie.Need-returns
 unfolding startedIn _and_
