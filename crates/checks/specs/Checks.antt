@@ -100,9 +100,7 @@ outcomesZero t = allb (t .n) (λ i. eqb (keyOf (t .outcome) i) granted)
 
 unfoldable pub setUpIn : State → Bool
 setUpIn k = eqb (k .clock) 0 and eqb (k .hold) 0 and eqb (k .running) noId and eqb (k .waiting .n) 0
-    and allb (k .mutexes .n) (λ j. eqb (ownerAt (k .mutexes) j) noId)
-    and allb (k .tasks .n) (λ i. eqb (keyOf (k .tasks .outcome) i) granted)
-    and tiesb (keyOf (k .tasks .level)) (items (k .ready))
+    and nothingOwned (k .mutexes) and outcomesZero (k .tasks) and tiesb (keyOf (k .tasks .level)) (items (k .ready))
 
 -- what a started record or one in set-up owes
 abbrev pub phaseIn : State → Bool
@@ -110,5 +108,4 @@ phaseIn k = cond (eqb (k .started) 0) (setUpIn k) (startedIn k)
 
 unfoldable pub checks : State → Bool
 checks k = tidyb k and prioritiesIn (k .tasks) and mutexesIn (k .mutexes) (k .tasks .n) and countsIn (k .semaphores) and tasksIn k and placesIn k
-    and ringless k and levelsIn k and ascb (keyOf (k .tasks .level)) (items (k .ready))
-    and cond (eqb (k .started) 0) (setUpIn k) (startedIn k)
+    and ringless k and levelsIn k and ascb (keyOf (k .tasks .level)) (items (k .ready)) and phaseIn k

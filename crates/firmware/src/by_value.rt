@@ -1,10 +1,9 @@
 // The step of a code, on a record that is handed in and handed back.
 ghost use mathlib.Core.Path.{_≡_};
-ghost use Rattle.firmware.specs.Call.{requestOf, callOf};
-ghost use Rattle.firmware.specs.Packed.{Carries};
+ghost use Rattle.calls.specs.Call.{requestOf, callOf};
+ghost use Rattle.calls.specs.Packed.{Carries};
 use crate::Stepped;
-use crate::answers;
-use crate::calls;
+use calls::answers;
 use record::Out;
 use record::State;
 

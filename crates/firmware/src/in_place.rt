@@ -2,8 +2,8 @@
 ghost use mathlib.Core.Path.{_≡_};
 ghost use Rattle.record.specs.SoundRecord.{soundOf};
 ghost use Rattle.record.specs.DemandRecord.{freshRecord};
-ghost use Rattle.firmware.specs.Call.{requestOf, callOf};
-ghost use Rattle.firmware.specs.Packed.{Carries};
+ghost use Rattle.calls.specs.Call.{requestOf, callOf};
+ghost use Rattle.calls.specs.Packed.{Carries};
 use crate::by_value;
 use record::State;
 

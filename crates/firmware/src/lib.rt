@@ -1,25 +1,15 @@
 // The kernel for firmware: one state record, changed where it lies or handed on, by functions that C can call.
 mod answers;
 mod by_value;
-mod calls;
 mod in_place;
 
-pub use answers::answer_code;
 pub use answers::cungkalisa_number;
 pub use answers::cungkalisa_run;
 pub use answers::cungkalisa_value;
 pub use by_value::cungkalisa_step_by_value;
-pub use calls::call;
-pub use calls::request_of;
 pub use in_place::cungkalisa_fresh;
 pub use in_place::cungkalisa_is_sound;
 pub use in_place::cungkalisa_step;
-
-// What a step's code and its two numbers ask for.
-pub enum Asked {
-    Step { request: record::Request },
-    Nothing,
-}
 
 // What comes of a step by value: the record after it, and the answer in one number.
 #[repr(C)]

@@ -1,6 +1,5 @@
 // Tasks, mutexes and semaphores made, and what is theirs changed.
 ghost use mathlib.Core.Path.{_≡_};
-ghost use Prim.Native.Nat.{_<_};
 ghost use Rattle.machine.specs.Machine.{ownerSet, countSet, taskAdded, mutexAdded, semAdded};
 use record::MUTEXES;
 use record::Mutexes;

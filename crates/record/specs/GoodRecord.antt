@@ -1,4 +1,4 @@
--- What is known of a record: what its types tell, and what soundness adds.
+-- What the types of a record tell.
 use mathlib.Core.Path.{_≡_}
 use Prim.Native.Nat.{ℕ, _<_}
 use lib.ListN.{length, getD}

@@ -52,7 +52,7 @@ abbrev pub HasRoom : Option ℕ → Answer → Type 0
 HasRoom none a = Unit
 HasRoom (some room) a = length (logLine a) ≤ room
 
--- what holds where h is what is told, and `answer` is what a further call is answered
+-- what holds where h is told, and `answer` is what a further call is answered
 pub record Demand (h : Told) (answer : Call → Answer) : Type 0 where
   -- "After such a list `level` is accepted for it (its log line, where one is asked for, having room), and that value is its level."
   pub levels : (i : ℕ) → i < tasksMade h → (room : Option ℕ) → HasRoom room (answer (levelCall i none))
@@ -94,7 +94,7 @@ toldIn s = record {
 unfoldable pub told : State → List Event → Told
 told s es = toldFrom (toldIn s) es
 
--- the theorem, which holds of every sound state s: over every list of calls from it, where it is started or the list has an accepted start
+-- the theorem, of every sound state s: over every list of calls from it, where it is started or the list has an accepted start
 abbrev pub Demand-3-from : State → Type 0
 Demand-3-from s = (cs : List Call) → (told s (events s cs)) .started ≡ true → Demand (told s (events s cs)) (call (after s cs))
 

@@ -30,7 +30,7 @@ pub record Told : Type 0 where
   pub owner : ℕ → Option ℕ
   -- "It waits from a step of its own answered 1 until a step ends that wait.": the wait as it began
   pub wait : ℕ → Option Wait
-  -- the accepted ticks since it began
+  -- the accepted ticks since it began, where there is one
   pub ticks : ℕ → ℕ
   -- who waits, in the order in which their waits began
   pub order : List ℕ
@@ -131,7 +131,7 @@ tells h (unlock m) k = cond (runnerOwns h m) (handsOver h m (toldBest h (mutexOf
 tells h (pend j t) k = cond (eqb k 1) (begins h (semOf j) t (h .runs)) h
 tells h (post j) k = endsOf h (toldBest h (semOf j))
 tells h (flush j) k = endsWhere h (λ i. waitIsFor (h .wait i) (semOf j))
-tells h (sleep t) k = begins h time t (h .runs)
+tells h (sleep t) k = cond (eqb k 1) (begins h time t (h .runs)) h
 tells h yield k = h
 tells h hold k = toldBeside h (h .runs) (h .depth + 1) (h .started)
 tells h free k = toldBeside h (h .runs) (h .depth - 1) (h .started)
@@ -146,7 +146,7 @@ nowRuns h r = toldBeside h r (h .depth) (h .started)
 unfoldable pub observe : Told → Event → Told
 observe h e = nowRuns (cond (leb (e .number) 1) (tells h (e .made) (e .number)) h) (e .run)
 
--- what is told when events follow what was told, the first event first
+-- what is told after more events, the first one first
 unfoldable pub toldFrom : Told → List Event → Told
 toldFrom h [] = h
 toldFrom h (e ∷ es) = toldFrom (observe h e) es

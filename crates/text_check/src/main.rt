@@ -1,4 +1,4 @@
-// Runs the functions of `text` on edge inputs and prints what they answer, to be compared with the stored output.
+// Runs the functions of `text`, `decimal` and `arrive` on edge inputs and prints what they answer, to be compared with the stored output.
 mod arrivals;
 mod cuts;
 mod numbers;

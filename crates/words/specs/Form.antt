@@ -17,7 +17,7 @@ use Rattle.text.specs.Ascii.{ascii}
 unfoldable pub headerBytes : List ℕ
 headerBytes = ascii "kernel\t1"
 
--- "Lines over 80 bytes without the LF .. are answered 14" (no step is so long: WrittenLaws, line-short)
+-- "Lines over 80 bytes without the LF .. are answered 14" (no step is so long: WrittenLaws of `syntax`, line-short)
 abbrev pub longest : ℕ
 longest = 80
 
@@ -42,7 +42,7 @@ withTwo f (a ∷ []) = none
 withTwo f (a ∷ b ∷ []) = some (f a b)
 withTwo f (a ∷ b ∷ c ∷ l) = none
 
--- no word takes more numbers (WrittenLaws, made-many)
+-- no word takes more numbers (WrittenLaws of `syntax`, made-many)
 abbrev pub mostNumbers : ℕ
 mostNumbers = 2
 

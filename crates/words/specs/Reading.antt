@@ -1,4 +1,4 @@
--- What reading a line answers: the request of the step that it is, or that it is none.
+-- What reading answers: the request of the step that was read, or that there is none.
 use mathlib.Core.List.{List}
 use mathlib.Core.Option.{Option, none, some}
 use Prim.Native.Nat.{ℕ}

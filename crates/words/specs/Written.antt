@@ -1,4 +1,4 @@
--- How a step is written: the one line that it has. WrittenLaws proves that these lines, and no others, are steps.
+-- How a step is written: the one line that it has. WrittenLaws of `syntax` proves that these lines, and no others, are steps.
 use mathlib.Core.List.{List, [], _∷_, map}
 use Prim.Native.Nat.{ℕ, _≤_}
 use lib.ListN.{getD}

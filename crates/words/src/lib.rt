@@ -10,7 +10,7 @@ use record::Request;
 // The most bytes of a short name. Half of the words are short, so a name is compared with half of the words only.
 const SHORT: usize = 4;
 
-// A line read: a step's request, or nothing of the form.
+// What was read: a step's request, or nothing of the form.
 pub enum Reading {
     Made(Request),
     Malformed,

@@ -2,7 +2,7 @@
 use mathlib.Core.Path.{subst, ap, _∙_}
 use borrow.Author.Needs.{needs}
 use Rattle.record.specs.declared.Out.{Out}
-use Rattle.firmware.specs.Packed.{Carries}
+use Rattle.calls.specs.Packed.{Carries}
 use Rattle.firmware.proofs.by_value.cungkalisa_step_by_value.Statement.{statement}
 use Rattle.firmware.proofs.by_value.cungkalisa_step_by_value.Tie as tie
 

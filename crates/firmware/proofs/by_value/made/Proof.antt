@@ -1,6 +1,6 @@
 -- `made`: what the code asks for, called.
 use mathlib.Core.Path.{ap, _∙_}
-use Rattle.firmware.specs.Call.{callOf}
+use Rattle.calls.specs.Call.{callOf}
 use borrow.Author.Needs.{needs}
 use Rattle.firmware.proofs.by_value.made.Statement.{statement}
 use Rattle.firmware.proofs.by_value.made.Tie as tie

@@ -38,8 +38,8 @@ use denote.Triple.Clauses.{ensured, lasts}
 use denote.Exit.{yes}
 use Rattle.record.specs.declared.State.{State}
 use Rattle.record.specs.declared.Out.{Out}
-use Rattle.firmware.specs.Call.{requestOf, callOf}
-use Rattle.firmware.specs.Packed.{Carries}
+use Rattle.calls.specs.Call.{requestOf, callOf}
+use Rattle.calls.specs.Packed.{Carries}
 use Rattle.record.proofs.Out as O
 use Rattle.record.proofs.Out.Laws as O′
 use Rattle.record.proofs.State as T

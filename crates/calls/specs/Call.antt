@@ -7,8 +7,8 @@ use Rattle.record.specs.DemandRecord.{standingIn}
 use Rattle.record.specs.declared.State.{State}  -- keep
 use Rattle.record.specs.declared.Out.{Out}  -- keep
 use Rattle.record.specs.declared.Request.the-variants.{Task, Mutex, Sem, Start, Lock, Unlock, Pend, Post, Flush, Sleep, Yield, Hold, Free, Tick, Level, Outcome}  -- keep
-use Rattle.firmware.specs.declared.Asked.{Asked}  -- keep
-use Rattle.firmware.specs.declared.Asked.the-variants.{Step, Nothing}  -- keep
+use Rattle.calls.specs.declared.Asked.{Asked}  -- keep
+use Rattle.calls.specs.declared.Asked.the-variants.{Step, Nothing}  -- keep
 
 -- the steps by their codes, 0 to 15; a step that has no number, or one, leaves the others out of account
 abbrev pub byCode : ℕ → ℕ → List Asked

@@ -9,9 +9,9 @@ use Rattle.record.specs.DemandRecordLaws.{refused-stays}
 use Rattle.record.specs.declared.State.{State}  -- keep
 use Rattle.record.specs.declared.Request.{Request}  -- keep
 use Rattle.record.specs.declared.Request.the-variants.{Task, Mutex, Sem, Start, Lock, Unlock, Pend, Post, Flush, Sleep, Yield, Hold, Free, Tick, Level, Outcome}  -- keep
-use Rattle.firmware.specs.Call.{byCode, requestOf, callOf}
-use Rattle.firmware.specs.declared.Asked.{Asked}  -- keep
-use Rattle.firmware.specs.declared.Asked.the-variants.{Step, Nothing}  -- keep
+use Rattle.calls.specs.Call.{byCode, requestOf, callOf}
+use Rattle.calls.specs.declared.Asked.{Asked}  -- keep
+use Rattle.calls.specs.declared.Asked.the-variants.{Step, Nothing}  -- keep
 
 -- a number that is no smaller and another is greater
 pub past : (n code : ℕ) → n ≤ code → (code ≡ n → ⊥) → suc n ≤ code

@@ -1,8 +1,8 @@
 -- `call`: by what is asked for.
-use Rattle.firmware.specs.Call.{callOf}
+use Rattle.calls.specs.Call.{callOf}
 use borrow.Author.Needs.{needs}
-use Rattle.firmware.proofs.calls.call.Statement.{statement}
-use Rattle.firmware.proofs.calls.call.Tie as tie
+use Rattle.calls.proofs.call.Statement.{statement}
+use Rattle.calls.proofs.call.Tie as tie
 
 enum-known-x : tie.Need-enum-known-x
 enum-known-x c = search needs

@@ -1,10 +1,17 @@
 // A step by its code, on a record by value.
 ghost use mathlib.Core.Path.{_≡_};
-ghost use Rattle.firmware.specs.Call.{requestOf, callOf};
-use crate::Asked;
+ghost use Rattle.calls.specs.Call.{requestOf, callOf};
 use record::Out;
 use record::Request;
 use record::State;
+
+pub mod answers;
+
+// What a step's code and its two numbers ask for.
+pub enum Asked {
+    Step { request: Request },
+    Nothing,
+}
 
 // The request of a code; a step takes as many of the numbers as it has, and ignores the rest.
 pub fn request_of(code: u32, a: u32, b: u32) -> Asked

@@ -1,8 +1,8 @@
 -- `answer_code`: the number, value and task of the answer, accepted or refused, side by side.
 use Rattle.record.specs.StepRecord.{numberOf, valueOf, runOf}
 use borrow.Author.Needs.{needs}
-use Rattle.firmware.proofs.answers.answer_code.Statement.{statement}
-use Rattle.firmware.proofs.answers.answer_code.Tie as tie
+use Rattle.calls.proofs.answers.answer_code.Statement.{statement}
+use Rattle.calls.proofs.answers.answer_code.Tie as tie
 
 enum-known-x : tie.Need-enum-known-x
 enum-known-x c = search needs
