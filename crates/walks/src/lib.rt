@@ -17,21 +17,20 @@ pub const TASKS: usize = 16;
 const TASK_PLACES: u8 = TASKS as u8;
 
 // Each task on the chain from `at` raised to `p`, where that is more urgent; the fuel, tasks not yet seen, falls at each call.
-pub fn lift(levels: [u8; TASKS], next: &[u8; TASKS], at: u8, p: u8, fuel: u8) -> [u8; TASKS]
-    ensures { λ r. ⌜ r ≡ lifted levels p (chainFrom (now (next .entry)) at fuel) ⌝ }
+pub fn lift(levels: &mut [u8; TASKS], next: &[u8; TASKS], at: u8, p: u8, fuel: u8)
+    ensures { λ _. ⌜ now (levels .exit) ≡ lifted (now (levels .entry)) p (chainFrom (now (next .entry)) at fuel) ⌝ }
 {
     if fuel == 0 {
-        return levels;
+        return;
     }
     let first = at as usize;
     if TASKS <= first {
-        return levels;
+        return;
     }
-    let mut l = levels;
-    if p < l[first] {
-        l[first] = p;
+    if p < levels[first] {
+        levels[first] = p;
     }
-    lift(l, next, next[first], p, fuel - 1)
+    lift(levels, next, next[first], p, fuel - 1)
 }
 
 // The least own priority among each task and all tasks whose chain leads to it, of the first `n` tasks.
@@ -48,8 +47,7 @@ pub fn levels_of(own: [u8; TASKS], next: &[u8; TASKS], n: u8) -> [u8; TASKS]
         // A task that leads nowhere lifts only itself, and stands there already.
         let to = next[i];
         if to < TASK_PLACES {
-            let m = lift(l, next, j, own[i], n);
-            l = m;
+            lift(&mut l, next, j, own[i], n);
         }
         j += 1;
     }

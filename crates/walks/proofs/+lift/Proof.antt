@@ -13,28 +13,28 @@ use Rattle.walks.proofs.+lift.Lts-lift as lift-lts
 use Rattle.walks.proofs.+lift.{statement}
 use Rattle.walks.proofs.+lift.Tie.{close}
 
-abbrev μ-lift : Measures 1 lift-kinds.ps ℕ
+abbrev μ-lift : Measures 2 lift-kinds.ps ℕ
 μ-lift κs a = a .1 .1 .1 .1 .0
 
-abbrev lift-at : ℕ → In 1 lift-kinds.ps
-lift-at t = and 1 lift-kinds.ps (is 1 lift-kinds.ps μ-lift t) lift.Pre
+abbrev lift-at : ℕ → In 2 lift-kinds.ps
+lift-at t = and 2 lift-kinds.ps (is 2 lift-kinds.ps μ-lift t) lift.Pre
 
-abbrev lift-below : ℕ → In 1 lift-kinds.ps
-lift-below t = and 1 lift-kinds.ps (falls 1 lift-kinds.ps _<_ μ-lift t) lift.Pre
+abbrev lift-below : ℕ → In 2 lift-kinds.ps
+lift-below t = and 2 lift-kinds.ps (falls 2 lift-kinds.ps _<_ μ-lift t) lift.Pre
 
 lift-returns : (t : ℕ) → lift-lts.Need-returns (lift-below t, lift.Post) (lift-at t) lift.Post
-lift-returns t c = let a = c .before .args in lift-spent (a .next .now) (a .at) (a .levels) (a .p) (a .fuel) (c .if1 .taken)
+lift-returns t c = let a = c .before .args in lift-spent (a .next .now) (a .at) (a .levels .now) (a .p) (a .fuel) (c .if1 .taken)
 
 lift-returns-2 : (t : ℕ) → lift-lts.Need-returns-2 (lift-below t, lift.Post) (lift-at t) lift.Post
-lift-returns-2 t c = let a = c .before .before .args in lift-out (a .next .now) (a .at) (a .levels) (a .p) (a .fuel) (c .if2 .taken)
+lift-returns-2 t c = let a = c .before .before .args in lift-out (a .next .now) (a .at) (a .levels .now) (a .p) (a .fuel) (c .if2 .taken)
 
-lift-array-read-if3 :
-    (t : ℕ) → lift-lts.Need-array-read-if3 (lift-below t, lift.Post) (lift-at t) lift.Post
-lift-array-read-if3 t c = search needs
+lift-element-copy-out-if3 :
+    (t : ℕ) → lift-lts.Need-element-copy-out-if3 (lift-below t, lift.Post) (lift-at t) lift.Post
+lift-element-copy-out-if3 t c = search needs
 
-lift-array-write-l :
-    (t : ℕ) → lift-lts.Need-array-write-l (lift-below t, lift.Post) (lift-at t) lift.Post
-lift-array-write-l t c = search needs
+lift-element-write-levels :
+    (t : ℕ) → lift-lts.Need-element-write-levels (lift-below t, lift.Post) (lift-at t) lift.Post
+lift-element-write-levels t c = search needs
 
 lift-element-copy-out-lift : (t : ℕ) → lift-lts.Need-element-copy-out-lift (
   lift-below t,
@@ -51,12 +51,12 @@ lift-lift-requires t c κs = search needs
 
 lift-returns-3 : (t : ℕ) → lift-lts.Need-returns-3 (lift-below t, lift.Post) (lift-at t) lift.Post
 lift-returns-3 t c =
-    let a = c .before .before .before .before .before .args in
-    let s = c .before .before .if3 in
-    lift-on (a .next .now) (a .at) (a .levels) (a .p) (s .l) (c .lift .result) (a .fuel) (omega arith) (c .before .before .before .if2 .left)
+    let a = c .before .before .before .before .before .before .before .args in
+    let s = c .before .before .before .if3 in
+    lift-on (a .next .now) (a .at) (a .levels .now) (a .p) (s .levels) (c .lift .last .0) (a .fuel) (omega arith) (c .before .before .before .before .before .if2 .left)
     (elim (s .came) [
-      | inl w ↦ w .1 ∙ raise-lower (a .next .now) (a .at) (a .levels) (a .p) (w .0 .taken)
-      | inr w ↦ w .1 ∙ raise-not (a .next .now) (a .at) (a .levels) (a .p) (w .0 .left)
+      | inl w ↦ w .1 ∙ raise-lower (a .next .now) (a .at) (a .levels .now) (a .p) (w .0 .taken)
+      | inr w ↦ w .1 ∙ raise-not (a .next .now) (a .at) (a .levels .now) (a .p) (w .0 .left)
     ])
     (c .lift .ensures)
 
@@ -70,8 +70,8 @@ pub +lift-spec : {M : Type 1} → statement M
     lift.Post
     (lift-returns t)
     (lift-returns-2 t)
-    (lift-array-read-if3 t)
-    (lift-array-write-l t)
+    (lift-element-copy-out-if3 t)
+    (lift-element-write-levels t)
     (lift-element-copy-out-lift t)
     (lift-sub-lift t)
     (lift-lift-requires t)

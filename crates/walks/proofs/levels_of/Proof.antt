@@ -48,7 +48,7 @@ loop-again c = let a = c .before .before .before .before .before .args in
       omega arith,
       omega arith,
       elim (c .if2 .came) [
-        | inl w ↦ w .2 ∙ raised-step (a .t1) (a .next .now) (s .l) (w .1 .result) (a .n) (s .j) (s .inv .2) (w .1 .ensures)
+        | inl w ↦ w .3 ∙ raised-step (a .t1) (a .next .now) (s .l) (w .2 .last .0) (a .n) (s .j) (s .inv .2) (w .2 .ensures)
         | inr w ↦ w .1 ∙ raised-alone (a .t1) (a .next .now) (s .l) (a .n) (s .j) (s .inv .2) (omega arith) (omega arith) (w .0 .left)
       ],
     )
