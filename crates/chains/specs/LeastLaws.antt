@@ -1,7 +1,7 @@
 -- Laws of the least value that leads to a number: it is attained, and the recursive wording says the same and nothing else.
 use mathlib.Core.Path.{_≡_, refl, ap}
 use mathlib.Core.List.{List}
-use mathlib.Core.Bool.{Bool, true}
+use mathlib.Core.Bool.{Bool, true, false}
 use mathlib.Core.Logic.{_⊎_, inl, inr}
 use mathlib.Core.Option.{Option, some}
 use Prim.Native.Nat.{ℕ, zero, suc, _+_, _≤_, _<_}
@@ -49,6 +49,21 @@ module _ (p : ℕ → Bool) (f : ℕ → ℕ) (d : ℕ) where
       | inr r ↦ inr (r .0, omega arith, r .2, rw t (r .3))
     ]
   ]
+
+-- tests that agree below n have one least
+pub least-same : (n : ℕ) (p q : ℕ → Bool) (f : ℕ → ℕ) (d : ℕ) → ((j : ℕ) → j < n → p j ≡ q j) → least n p f d ≡ least n q f d
+unfolding least
+least-same zero p q f d h = refl
+least-same (suc n) p q f d h = rw (h n (omega arith), least-same n p q f d (λ j r. h j (omega arith)))
+
+-- numbers from n on that fail the test change nothing
+pub least-used : (n most : ℕ) (p : ℕ → Bool) (f : ℕ → ℕ) (d : ℕ) → n ≤ most → ((j : ℕ) → n ≤ j → j < most → p j ≡ false) → least most p f d ≡ least n p f d
+unfolding least
+least-used n zero p f d h out = let z : n ≡ 0 = omega arith in rw z refl
+least-used n (suc most) p f d h out = elim (ℕ-discrete n (suc most)) [
+  | yes e ↦ rw e refl
+  | no q ↦ rw (out most (omega arith) (omega arith)) (least-used n most p f d (omega arith) (λ j a b. out j a (omega arith)))
+]
 
 module _ {n : ℕ} {next : ℕ → Option ℕ} (s : Ended n next) where
   at-start : (j : ℕ) → j < n → (k : ℕ) → some j ≡ some k → k < n

@@ -1,5 +1,5 @@
 -- The code's own test of a record is `soundOf`: the ready order, the two phases, and the whole.
-use mathlib.Core.Path.{_≡_, refl, ap, sym, _∙_}
+use mathlib.Core.Path.{_≡_, refl, sym, _∙_}
 use mathlib.Core.List.{List, [], _∷_}
 use mathlib.Core.Bool.{Bool, true, false, cond, not}
 use mathlib.Core.Logic.{_⊎_, inl, inr}
@@ -9,28 +9,32 @@ use native.Mathlib.Omega.{arith}
 use native.Mathlib.Decide.{decLt}
 use lib.Dec.{ltb, leb, eqb}
 use lib.ListN.{length, getD, take}
-use borrow.Author.Tests.{ltb-true, eqb-true, lt-ltb, le-leb, eq-eqb, ne-eqb}
+use borrow.Author.Tests.{ltb-true, eqb-true, lt-ltb, le-ltb, le-leb, eq-eqb, ne-eqb}
 use Rattle.lists.specs.Test.{_and_, _or_, allb, someb}
 use Rattle.lists.specs.Count.{occ}
 use Rattle.lists.specs.Order.{ascb, tiesb, inside}
-use Rattle.lists.specs.TestLaws.{and-l, and-r, true-and, or-true, same-test, and-same, all-same}
+use Rattle.lists.specs.TestLaws.{and-l, and-r, true-and, or-true, or-r, same-test}
 use Rattle.lists.specs.CountLaws.{occ-head}
 use Rattle.lists.specs.OrderLaws.{inside-true}
 use Rattle.rules.specs.Sizes.{taskPlaces, maxMutexes, maxSemaphores, maxHold, granted}
 use Rattle.rules.specs.Tables.{taskCount, mutexCount, semCount, outcomeOf, ownerOf}
 use Rattle.rules.specs.Levels.{levelIn}
 use Rattle.rules.specs.Sound.{columnsb, sizesb, rangesb, clockb, ascendingb, noneIn, runsb, holdb, urgentTop, urgentb, setUpb, tablesb, soundb}
+use Rattle.rules.specs.SoundLaws.{tables-facts}
 use Rattle.task_lists.specs.TaskList.{noId, items, keyOf}
 use Rattle.walks.specs.Walk.{taskAt}
 use Rattle.walks.specs.WalkLaws.{task-in}
 use Rattle.record.specs.Record.{viewTables, view}
 use Rattle.record.specs.SoundRecord.{tidyb, levelsb, soundOf}
 use Rattle.record.specs.Reads.{ownerAt}
-use Rattle.checks.specs.Checks.{prioritiesIn, mutexesIn, countsIn, tasksIn, placesIn, ringless, levelsIn, topIn, startedIn, setUpIn, checks}
 use Rattle.record.specs.GoodRecord.{Typed}
-use Rattle.record.specs.TidyLaws.{tasks-fit, mutexes-fit, semaphores-fit, ready-fits, waiting-fits, running-or}
-use Rattle.record.specs.ViewLaws.{stored-level, owner-id, view-tasks, view-outcomes, view-waits, view-mutexes, view-kinds, view-semaphores, view-maxima, view-outcome, view-owner}
-use Rattle.checks.specs.TableCheckLaws.{priorities-same, mutexes-same, counts-same, tasks-same, ring-same, levels-same, places-same}
+use Rattle.record.specs.TidyLaws.{tasks-fit, mutexes-fit, semaphores-fit, ready-fits, waiting-fits, running-or, unused-at}
+use Rattle.record.specs.ViewLaws.{stored-level, owner-id, unused-owner, view-tasks, view-outcomes, view-waits, view-mutexes, view-kinds, view-semaphores, view-maxima, view-outcome, view-owner}
+use Rattle.checks.specs.Checks.{sizesIn, unusedAt, tasksIn, objectsIn, waitsIn, startedIn, freeAt, setUpIn, checks}
+use Rattle.checks.specs.TidyCheckLaws.{checks-tidy, tidy-sizes, tidy-unused, tidy-waits}
+use Rattle.checks.specs.TableCheckLaws.{no-id, used-tasks, used-mutexes, priorities-same, times-same, outcomes-same, owner-read, mutexes-same, counts-same, lists-same, blocked-same}
+use Rattle.checks.specs.PlaceCheckLaws.{places-same, waiting-view, places-view}
+use Rattle.checks.specs.LevelCheckLaws.{ringless-ring, facts-ringless, levels-same}
 use Rattle.record.specs.declared.State.{State}  -- keep
 
 -- another key that agrees on the list
@@ -89,12 +93,18 @@ phases : (b x y : Bool) → cond b x y ≡ cond (not b) y x
 phases true x y = refl
 phases false x y = refl
 
-no-id : (x : ℕ) → (x < taskPlaces) ⊎ (x ≡ noId) → eqb x noId ≡ not (someb (taskAt x))
-unfolding someb
-no-id x c = elim c [
-  | inl h ↦ rw (task-in x h, ne-eqb x noId (λ e. omega arith)) refl
-  | inr e ↦ rw e refl
-]
+-- who runs, by the test of sizes
+runner-in : (k : State) → sizesIn k ≡ true → eqb (k .running) noId or ltb (k .running) (k .tasks .n) ≡ true
+unfolding sizesIn
+runner-in k e = and-r _ _ (and-r _ _ (and-r _ _ (and-r _ _ (and-r _ _ (and-r _ _ e)))))
+
+-- a record that passes is tidy
+tidy-of : (k : State) → Typed k → checks k ≡ true → tidyb k ≡ true
+unfolding checks
+tidy-of k T c₀ =
+    let c₁ = and-r _ _ c₀ in
+    let c₂ = and-r _ _ c₁ in
+    checks-tidy k T (and-l _ _ c₀) (and-l _ _ c₁) (and-l _ _ c₂) (and-l _ _ (and-r _ _ c₂))
 
 module _ (k : State) (T : Typed k) (tidy : tidyb k ≡ true) where
   -- where the sizes and the clock are in range, and columns have one place for each
@@ -116,6 +126,18 @@ module _ (k : State) (T : Typed k) (tidy : tidyb k ≡ true) where
   unfolding clockb view
   clock-true = true-and _ _ (lt-ltb _ _ (T .clock-word)) (le-leb (k .hold) maxHold (omega (arith, T .hold-byte)))
 
+  -- in set-up, no mutex is owned and every outcome is 0, at unused places anyway
+  unowned : allb maxMutexes (freeAt (k .mutexes .owner)) ≡ allb (mutexCount (viewTables k)) (λ j. not (someb (ownerOf (viewTables k) j)))
+  unowned = used-mutexes k T tidy _ _
+      (λ j h l. eq-eqb _ _ (owner-read k T tidy j l ∙ unused-owner k T tidy j h))
+      (λ j h. rw (owner-read k T tidy j (omega (arith, mutexes-fit k tidy)), view-owner k T tidy j) (no-id (ownerAt (k .mutexes) j) (owner-id k T tidy j)))
+
+  granted-all : allb taskPlaces (unusedAt (k .tasks .outcome) 0) ≡ allb (taskCount (viewTables k)) (λ i. eqb (outcomeOf (viewTables k) i) granted)
+  unfolding _or_
+  granted-all = used-tasks k T tidy _ _
+      (λ i h l. or-r (ltb i 0) _ (eq-eqb _ _ (unused-at k tidy i h l .no-outcome)))
+      (λ i h. rw (le-ltb i 0 (omega arith), view-outcome k T tidy i h) refl)
+
   -- where stored levels are as defined and the list of ready tasks and the running one are in range
   module _ (stored : levelsb k ≡ true) (listed : inside (k .tasks .n) (items (k .ready)) ≡ true) (runner : eqb (k .running) noId or ltb (k .running) (k .tasks .n) ≡ true) where
     level-ready : (y : ℕ) → 1 ≤ occ y (items (k .ready)) → keyOf (k .tasks .level) y ≡ levelIn (viewTables k) y
@@ -131,8 +153,8 @@ module _ (k : State) (T : Typed k) (tidy : tidyb k ≡ true) where
     unfolding ascendingb view
     ascending-same = asc-same-key _ _ (items (k .ready)) level-ready
 
-    started-same : startedIn k ≡ runsb (view k) and holdb (view k) and urgentb (view k)
-    unfolding startedIn topIn runsb holdb urgentb view
+    started-same : startedIn (k .tasks .level) (k .ready) (k .running) (k .hold) ≡ runsb (view k) and holdb (view k) and urgentb (view k)
+    unfolding startedIn runsb holdb urgentb view
     started-same = started-same-key (keyOf (k .tasks .level)) (levelIn (viewTables k)) (k .ready .n) (k .running) (k .hold) (k .ready .ids)
         (omega (arith, T .ready-length, ready-fits k tidy)) (running-or k tidy) level-running level-ready
 
@@ -145,65 +167,50 @@ module _ (k : State) (T : Typed k) (tidy : tidyb k ≡ true) where
       granted-all,
       ties-same-key (keyOf (k .tasks .level)) (levelIn (viewTables k)) (items (k .ready)) level-ready,
     )
-      where
-        unowned : allb (k .mutexes .n) (λ j. eqb (ownerAt (k .mutexes) j) noId) ≡ allb (mutexCount (viewTables k)) (λ j. not (someb (ownerOf (viewTables k) j)))
-        unowned = all-same _ _ _ _ (sym (view-mutexes k T tidy)) (λ j h. rw (view-owner k T tidy j) (no-id (ownerAt (k .mutexes) j) (owner-id k T tidy j)))
 
-        granted-all : allb (k .tasks .n) (λ i. eqb (keyOf (k .tasks .outcome) i) granted) ≡ allb (taskCount (viewTables k)) (λ i. eqb (outcomeOf (viewTables k) i) granted)
-        granted-all = all-same _ _ _ _ (sym (view-tasks k T tidy)) (λ i h. ap (λ (x : ℕ). eqb x granted) (sym (view-outcome k T tidy i h)))
-
-    phase-same : cond (eqb (k .started) 0) (setUpIn k) (startedIn k) ≡ cond (view k .started) (runsb (view k) and holdb (view k) and urgentb (view k)) (setUpb (view k))
+    phase-same : cond (eqb (k .started) 0) (setUpIn k) (startedIn (k .tasks .level) (k .ready) (k .running) (k .hold)) ≡ cond (view k .started) (runsb (view k) and holdb (view k) and urgentb (view k)) (setUpb (view k))
     unfolding view
     phase-same = rw (set-up-same, started-same) (phases (eqb (k .started) 0) _ _)
 
-  -- what the code's test of places tells of the ready list and of the running task
-  listed-in : placesIn k ≡ true → inside (k .tasks .n) (items (k .ready)) ≡ true
-  unfolding placesIn
-  listed-in e = and-l _ _ (and-r _ _ e)
-
-  runner-in : placesIn k ≡ true → eqb (k .running) noId or ltb (k .running) (k .tasks .n) ≡ true
-  unfolding placesIn
-  runner-in e = and-l _ _ (and-r _ _ (and-r _ _ e))
-
-  -- the code's test behind `tidyb`, and the rest of `soundOf`
-  abbrev checked : Bool
-  checked = prioritiesIn (k .tasks) and mutexesIn (k .mutexes) (k .tasks .n) and countsIn (k .semaphores) and tasksIn k and placesIn k
-      and ringless k and levelsIn k and ascb (keyOf (k .tasks .level)) (items (k .ready))
-      and cond (eqb (k .started) 0) (setUpIn k) (startedIn k)
-
-  checked-sound : checked ≡ true → levelsb k and soundb (view k) ≡ true
-  unfolding soundb tablesb rangesb view
-  checked-sound e₀ =
-      let e₁ = and-r _ _ e₀ in
-      let e₂ = and-r _ _ e₁ in
-      let e₃ = and-r _ _ e₂ in
-      let e₄ = and-r _ _ e₃ in
-      let e₅ = and-r _ _ e₄ in
-      let e₆ = and-r _ _ e₅ in
-      let e₇ = and-r _ _ e₆ in
-      let mutex = sym (mutexes-same k T tidy) ∙ and-l _ _ e₁ in
-      let task = sym (tasks-same k T tidy) ∙ and-l _ _ e₃ in
-      let spots = sym (places-same k T tidy) ∙ and-l _ _ e₄ in
-      let stored = sym (levels-same k T tidy) ∙ and-l _ _ e₆ in
-      let listed = listed-in (and-l _ _ e₄) in
-      let runner = runner-in (and-l _ _ e₄) in
-      true-and _ _ stored (true-and _ _ (
+  -- what a sound state says of the view, from the code's test, and back
+  checked-sound : checks k ≡ true → levelsb k and soundb (view k) ≡ true
+  unfolding checks tasksIn objectsIn waitsIn soundb tablesb rangesb view
+  checked-sound c₀ =
+      let c₁ = and-r _ _ c₀ in
+      let c₂ = and-r _ _ c₁ in
+      let c₃ = and-r _ _ c₂ in
+      let c₄ = and-r _ _ c₃ in
+      let c₅ = and-r _ _ c₄ in
+      let c₆ = and-r _ _ c₅ in
+      let c₇ = and-r _ _ c₆ in
+      let runner = runner-in k (and-l _ _ c₀) in
+      let task = and-r _ _ (and-l _ _ c₁) in
+      let times = and-r _ _ (and-r _ _ task) in
+      let object = and-l _ _ c₂ in
+      let mutex = sym (mutexes-same k T tidy) ∙ and-l _ _ object in
+      let lists = sym (lists-same k T tidy) ∙ and-l _ _ c₃ in
+      let listed = and-l _ _ lists in
+      let spots = sym (places-same k T tidy listed (and-r _ _ lists)) ∙ and-l _ _ c₄ in
+      let wait = and-l _ _ c₅ in
+      let tables =
       true-and _ _ columns-true
       (true-and _ _ sizes-true
-      (true-and _ _ (true-and _ _ (sym (priorities-same k T tidy) ∙ and-l _ _ e₀) (and-l _ _ mutex))
-      (true-and _ _ (and-l _ _ spots)
-      (true-and _ _ (and-l _ _ task)
-      (true-and _ _ (and-l _ _ (and-r _ _ task))
+      (true-and _ _ (true-and _ _ (sym (priorities-same k T tidy) ∙ and-l _ _ task) (and-l _ _ mutex))
+      (true-and _ _ (waiting-view k T tidy ∙ true-and _ _ (and-r _ _ lists) (and-l _ _ spots))
+      (true-and _ _ (sym (blocked-same k T tidy) ∙ and-l _ _ wait)
+      (true-and _ _ (sym (times-same k T tidy) ∙ and-l _ _ times)
       (true-and _ _ (and-r _ _ mutex)
-      (true-and _ _ (sym (ring-same k T tidy) ∙ and-l _ _ e₅)
-      (true-and _ _ (sym (counts-same k T tidy) ∙ and-l _ _ e₂) (and-r _ _ (and-r _ _ task))))))))))
-      )
+      (true-and _ _ (ringless-ring k T tidy (and-r _ _ wait))
+      (true-and _ _ (sym (counts-same k T tidy) ∙ and-r _ _ object) (sym (outcomes-same k T tidy) ∙ and-r _ _ times))))))))) in
+      let stored = sym (levels-same k T tidy (tables-facts (viewTables k) tables)) ∙ and-l _ _ c₆ in
+      true-and _ _ stored
+      (true-and _ _ tables
       (true-and _ _ clock-true
-      (true-and _ _ (and-r _ _ spots)
-      (true-and _ _ (sym (ascending-same stored listed runner) ∙ and-l _ _ e₇) (sym (phase-same stored listed runner) ∙ and-r _ _ e₇)))))
+      (true-and _ _ (places-view k T tidy ∙ true-and _ _ listed (true-and _ _ runner (and-r _ _ spots)))
+      (true-and _ _ (sym (ascending-same stored listed runner) ∙ and-l _ _ c₇) (sym (phase-same stored listed runner) ∙ and-r _ _ c₇)))))
 
-  sound-checked : levelsb k and soundb (view k) ≡ true → checked ≡ true
-  unfolding soundb tablesb rangesb view
+  sound-checked : levelsb k and soundb (view k) ≡ true → checks k ≡ true
+  unfolding checks tasksIn objectsIn waitsIn soundb tablesb rangesb view
   sound-checked e =
       let s₀ = and-r _ _ e in
       let s₁ = and-r _ _ (and-r _ _ s₀) in
@@ -213,22 +220,26 @@ module _ (k : State) (T : Typed k) (tidy : tidyb k ≡ true) where
       let t₄ = and-r _ _ t₃ in
       let t₅ = and-r _ _ t₄ in
       let t₆ = and-r _ _ t₅ in
-      let t₇ = and-r _ _ t₆ in
-      let t₈ = and-r _ _ t₇ in
+      let t₈ = and-r _ _ (and-r _ _ t₆) in
+      let F = tables-facts (viewTables k) (and-l _ _ s₀) in
       let stored = and-l _ _ e in
-      let spots = places-same k T tidy ∙ true-and _ _ (and-l _ _ t₃) (and-l _ _ s₁) in
-      let listed = listed-in spots in
-      let runner = runner-in spots in
-      true-and _ _ (priorities-same k T tidy ∙ and-l _ _ (and-l _ _ t₂))
-      (true-and _ _ (mutexes-same k T tidy ∙ true-and _ _ (and-r _ _ (and-l _ _ t₂)) (and-l _ _ t₆))
-      (true-and _ _ (counts-same k T tidy ∙ and-l _ _ t₈)
-      (true-and _ _ (tasks-same k T tidy ∙ true-and _ _ (and-l _ _ t₄) (true-and _ _ (and-l _ _ t₅) (and-r _ _ t₈)))
-      (true-and _ _ spots
-      (true-and _ _ (ring-same k T tidy ∙ and-l _ _ t₇)
-      (true-and _ _ (levels-same k T tidy ∙ stored)
+      let waits = sym (waiting-view k T tidy) ∙ and-l _ _ t₃ in
+      let spots = sym (places-view k T tidy) ∙ and-l _ _ s₁ in
+      let listed = and-l _ _ spots in
+      let runner = and-l _ _ (and-r _ _ spots) in
+      true-and _ _ (tidy-sizes k tidy runner)
+      (true-and _ _ (true-and _ _ (tidy-unused k tidy)
+      (true-and _ _ (priorities-same k T tidy ∙ and-l _ _ (and-l _ _ t₂))
+      (true-and _ _ (tidy-waits k tidy)
+      (true-and _ _ (times-same k T tidy ∙ and-l _ _ t₅) (outcomes-same k T tidy ∙ and-r _ _ t₈)))))
+      (true-and _ _ (true-and _ _ (mutexes-same k T tidy ∙ true-and _ _ (and-r _ _ (and-l _ _ t₂)) (and-l _ _ t₆)) (counts-same k T tidy ∙ and-l _ _ t₈))
+      (true-and _ _ (lists-same k T tidy ∙ true-and _ _ listed (and-l _ _ waits))
+      (true-and _ _ (places-same k T tidy listed (and-l _ _ waits) ∙ true-and _ _ (and-r _ _ waits) (and-r _ _ (and-r _ _ spots)))
+      (true-and _ _ (true-and _ _ (blocked-same k T tidy ∙ and-l _ _ t₄) (facts-ringless k T tidy F))
+      (true-and _ _ (levels-same k T tidy F ∙ stored)
       (true-and _ _ (ascending-same stored listed runner ∙ and-l _ _ s₂) (phase-same stored listed runner ∙ and-r _ _ s₂))))))))
 
 -- the code's own test of a record is "sound state"
 pub checks-sound : (k : State) → Typed k → checks k ≡ soundOf k
-unfolding checks soundOf
-checks-sound k T = and-same (tidyb k) _ _ (λ tidy. same-test _ _ (checked-sound k T tidy) (sound-checked k T tidy))
+unfolding soundOf
+checks-sound k T = same-test _ _ (λ c. (let t = tidy-of k T c in true-and _ _ t (checked-sound k T t c))) (λ s. sound-checked k T (and-l _ _ s) (and-r _ _ s))

@@ -1,111 +1,181 @@
--- The code's own test of a record, case by case as the code goes. A reader need not believe it: CheckLaws show it equal to `soundOf`.
+-- The code's own test of a record, phrase by phrase as the code goes. A reader need not believe it: CheckLaws show it equal to `soundOf`.
+-- A test of a table is made at every place; unused places, which hold what the fresh record holds, pass too.
 use mathlib.Core.List.{List}
 use mathlib.Core.Bool.{Bool, true, cond, not}
-use Prim.Native.Nat.{ℕ, _+_, min}
+use Prim.Native.Nat.{ℕ, _%_}
 use lib.Dec.{ltb, leb, eqb}
 use lib.ListN.{getD, replicate}
 use Rattle.lists.specs.Test.{_and_, _or_, allb}
-use Rattle.lists.specs.Order.{ascb, tiesb, inside}
+use Rattle.lists.specs.Order.{ascb, tiesb}
 use Rattle.lists.specs.Table.{filled}
 use Rattle.chains.specs.Chain.{endsb}
-use Rattle.rules.specs.Sizes.{taskPlaces, levels, kinds, maxTicks, granted, pending, timedOut, flushed, onMutex, onSemaphore, onTime}
+use Rattle.rules.specs.Sizes.{taskPlaces, maxMutexes, maxSemaphores, levels, kinds, maxTicks, granted, pending, timedOut, flushed, onMutex, onSemaphore, onTime}
 use Rattle.rules.specs.Levels.{next}
-use Rattle.task_lists.specs.TaskList.{noId, items, keyOf, counted}
-use Rattle.walks.specs.Walk.{nextIn}
+use Rattle.task_lists.specs.TaskList.{noId, items, keyOf, counted, idFitsAt}
+use Rattle.walks.specs.Walk.{taskAt, nextIn, lentBy}
 use Rattle.record.specs.Record.{ticksLeft}
-use Rattle.record.specs.SoundRecord.{tidyb}
-use Rattle.record.specs.Reads.{ownerAt, kindAt, nextAt, newLevels, firstId, countAt, maximumAt}
+use Rattle.record.specs.Reads.{ledBy, heirAt, firstId}
 use Rattle.record.specs.declared.State.{State}  -- keep
 use Rattle.record.specs.declared.Tasks.{Tasks}  -- keep
 use Rattle.record.specs.declared.Mutexes.{Mutexes}  -- keep
 use Rattle.record.specs.declared.Semaphores.{Semaphores}  -- keep
+use Rattle.task_lists.specs.declared.TaskList.{TaskList}  -- keep
 
--- ranges
-unfoldable pub prioritiesIn : Tasks → Bool
-prioritiesIn t = allb (t .n) (λ i. ltb (keyOf (t .priority) i) levels)
-
-unfoldable pub mutexInRange : Mutexes → ℕ → ℕ → Bool
-mutexInRange m n j = ltb (kindAt m j) kinds and (eqb (ownerAt m j) noId or ltb (ownerAt m j) n)
-
-unfoldable pub mutexesIn : Mutexes → ℕ → Bool
-mutexesIn m n = allb (m .n) (mutexInRange m n)
-
-unfoldable pub countIn : Semaphores → ℕ → Bool
-countIn c j = leb (countAt c j) (maximumAt c j) and ltb 0 (maximumAt c j)
-
-unfoldable pub countsIn : Semaphores → Bool
-countsIn c = allb (c .n) (countIn c)
-
--- one task's wait and outcome
-unfoldable pub blockedAt : State → ℕ → Bool
-blockedAt k i =
-    let kind = keyOf (k .tasks .wait) i in
-    let object = keyOf (k .tasks .object) i in
-    cond (eqb kind onMutex) (ltb object (k .mutexes .n) and not (eqb (ownerAt (k .mutexes) object) noId))
-    (cond (eqb kind onSemaphore) (ltb object (k .semaphores .n) and eqb (countAt (k .semaphores) object) 0) true)
-
-unfoldable pub timedAt : Tasks → ℕ → ℕ → Bool
-timedAt t clock i = cond (eqb (keyOf (t .timed) i) 1)
-    (ltb 0 (ticksLeft (getD (t .due) i 0) clock) and leb (ticksLeft (getD (t .due) i 0) clock) maxTicks)
-    (not (eqb (keyOf (t .wait) i) onTime))
-
-unfoldable pub outcomeAt : Tasks → ℕ → Bool
-outcomeAt t i = cond (eqb (keyOf (t .wait) i) 0)
-    (eqb (keyOf (t .outcome) i) granted or eqb (keyOf (t .outcome) i) timedOut or eqb (keyOf (t .outcome) i) flushed)
-    (eqb (keyOf (t .outcome) i) pending)
-
-unfoldable pub taskIn : State → ℕ → Bool
-taskIn k i = blockedAt k i and timedAt (k .tasks) (k .clock) i and outcomeAt (k .tasks) i
-
-unfoldable pub tasksIn : State → Bool
-tasksIn k = allb (k .tasks .n) (taskIn k)
-
--- each task in one place
-unfoldable pub placeAt : State → List ℕ → List ℕ → ℕ → Bool
-placeAt k waits all i =
-    eqb (keyOf waits i) (cond (eqb (keyOf (k .tasks .wait) i) 0) 0 1)
-    and eqb (keyOf all i + cond (eqb (k .running) i) 1 0) 1
-
-unfoldable pub placesIn : State → Bool
-placesIn k =
-    let waits = counted (replicate taskPlaces 0) (items (k .waiting)) in
-    let all = counted waits (items (k .ready)) in
-    inside (k .tasks .n) (items (k .waiting)) and inside (k .tasks .n) (items (k .ready))
+-- how many there are of each, and who runs
+unfoldable pub sizesIn : State → Bool
+sizesIn k = leb (k .tasks .n) taskPlaces and leb (k .mutexes .n) maxMutexes and leb (k .semaphores .n) maxSemaphores
+    and leb (k .ready .n) taskPlaces and leb (k .waiting .n) taskPlaces and leb (k .started) 1
     and (eqb (k .running) noId or ltb (k .running) (k .tasks .n))
-    and allb (k .tasks .n) (placeAt k waits all)
 
--- no ring, stored levels
-unfoldable pub ringless : State → Bool
-ringless k =
-    let next = filled taskPlaces (nextAt (k .tasks) (k .mutexes)) in
-    allb (min (k .tasks .n) taskPlaces) (λ i. endsb (k .tasks .n) (nextIn next) (nextIn next i))
+-- a place behind the last of n holds 0
+abbrev pub unusedAt : List ℕ → ℕ → ℕ → Bool
+unusedAt column n i = ltb i n or eqb (getD column i 0) 0
 
-unfoldable pub levelsIn : State → Bool
-levelsIn k = allb (min (k .tasks .n) taskPlaces) (λ i. eqb (getD (k .tasks .level) i 0) (getD (newLevels (k .tasks) (k .mutexes)) i 0))
+-- the same by flags of the used places
+abbrev pub unusedBy : List ℕ → List ℕ → ℕ → Bool
+unusedBy column used i = eqb (getD used i 0) 1 or eqb (getD column i 0) 0
 
--- after start
-unfoldable pub topIn : State → Bool
-topIn k = leb (keyOf (k .tasks .level) (k .running)) (keyOf (k .tasks .level) (firstId (k .ready)))
+unfoldable pub unusedIn : Tasks → Bool
+unusedIn t = allb taskPlaces (unusedAt (t .priority) (t .n)) and allb taskPlaces (unusedAt (t .level) (t .n)) and allb taskPlaces (unusedAt (t .outcome) (t .n))
+    and allb taskPlaces (unusedAt (t .wait) (t .n)) and allb taskPlaces (unusedAt (t .object) (t .n)) and allb taskPlaces (unusedAt (t .timed) (t .n))
 
-unfoldable pub startedIn : State → Bool
-startedIn k = cond (eqb (k .running) noId) (eqb (k .ready .n) 0 and eqb (k .hold) 0)
-    (cond (eqb (k .hold) 0) (cond (eqb (k .ready .n) 0) true (topIn k)) true)
+-- a task's own priority
+abbrev pub priorityAt : List ℕ → ℕ → Bool
+priorityAt priorities i = ltb (getD priorities i 0) levels
+
+-- a task's wait: an object only for a wait on one, a time only for a wait
+unfoldable pub waitFits : ℕ → ℕ → ℕ → Bool
+waitFits kind object timed = leb kind onTime and (eqb object 0 or eqb kind onMutex or eqb kind onSemaphore) and leb timed 1 and (eqb timed 0 or not (eqb kind 0))
+
+abbrev pub waitFitsAt : List ℕ → List ℕ → List ℕ → ℕ → Bool
+waitFitsAt waits objects timed i = waitFits (getD waits i 0) (getD objects i 0) (getD timed i 0)
+
+-- its time: 1 to 2147483647 ticks left, or none, and then it isn't a sleep
+unfoldable pub timeFits : ℕ → ℕ → ℕ → ℕ → Bool
+timeFits kind timed due clock = cond (eqb timed 1)
+    (ltb 0 (ticksLeft due clock) and leb (ticksLeft due clock) maxTicks)
+    (eqb due 0 and not (eqb kind onTime))
+
+abbrev pub timeFitsAt : List ℕ → List ℕ → List ℕ → ℕ → ℕ → Bool
+timeFitsAt waits timed due clock i = timeFits (getD waits i 0) (getD timed i 0) (getD due i 0) clock
+
+-- its outcome
+unfoldable pub outcomeFits : ℕ → ℕ → Bool
+outcomeFits kind n = cond (eqb kind 0) (eqb n granted or eqb n timedOut or eqb n flushed) (eqb n pending)
+
+abbrev pub outcomeFitsAt : List ℕ → List ℕ → ℕ → Bool
+outcomeFitsAt waits outcomes i = outcomeFits (getD waits i 0) (getD outcomes i 0)
+
+unfoldable pub tasksIn : Tasks → ℕ → Bool
+tasksIn t clock = unusedIn t and allb taskPlaces (priorityAt (t .priority)) and allb taskPlaces (waitFitsAt (t .wait) (t .object) (t .timed))
+    and allb taskPlaces (timeFitsAt (t .wait) (t .timed) (t .due) clock) and allb taskPlaces (outcomeFitsAt (t .wait) (t .outcome))
+
+-- a mutex: its kind in range, its owner one of the tasks; an unused one is as in the fresh record
+unfoldable pub mutexFits : Bool → ℕ → ℕ → ℕ → Bool
+mutexFits used tasks kind owner = cond used (ltb kind kinds and (eqb owner noId or ltb owner tasks)) (eqb kind 0 and eqb owner noId)
+
+abbrev pub mutexFitsAt : List ℕ → List ℕ → ℕ → ℕ → ℕ → Bool
+mutexFitsAt kinds owners n tasks j = mutexFits (ltb j n) tasks (getD kinds j 0) (getD owners j 0)
+
+-- a semaphore: its count at most its maximum, and that at least 1; an unused one is as in the fresh record
+unfoldable pub semFits : Bool → ℕ → ℕ → Bool
+semFits used count maximum = cond used (leb count maximum and ltb 0 maximum) (eqb count 0 and eqb maximum 0)
+
+abbrev pub semFitsAt : List ℕ → List ℕ → ℕ → ℕ → Bool
+semFitsAt counts maxima n j = semFits (ltb j n) (getD counts j 0) (getD maxima j 0)
+
+unfoldable pub objectsIn : Mutexes → Semaphores → ℕ → Bool
+objectsIn m c tasks = allb maxMutexes (mutexFitsAt (m .kind) (m .owner) (m .n) tasks) and allb maxSemaphores (semFitsAt (c .count) (c .maximum) (c .n))
+
+-- the two lists
+unfoldable pub listsIn : TaskList → TaskList → ℕ → Bool
+listsIn ready waiting tasks = allb taskPlaces (idFitsAt (ready .ids) (ready .n) tasks) and allb taskPlaces (idFitsAt (waiting .ids) (waiting .n) tasks)
+
+-- what a task waits for isn't available: its mutex has an owner, its semaphore exists and has no credit
+unfoldable pub blockedBy : ℕ → ℕ → ℕ → ℕ → ℕ → Bool
+blockedBy kind object semaphores owner count =
+    cond (eqb kind onMutex) (ltb object maxMutexes and not (eqb owner noId))
+    (cond (eqb kind onSemaphore) (ltb object semaphores and eqb count 0) true)
+
+abbrev pub blockedAt : List ℕ → List ℕ → List ℕ → List ℕ → ℕ → ℕ → Bool
+blockedAt waits objects owners counts semaphores i =
+    let object = getD objects i 0 in
+    blockedBy (getD waits i 0) object semaphores (getD owners (object % maxMutexes) 0) (getD counts (object % maxSemaphores) 0)
+
+unfoldable pub blockedIn : List ℕ → List ℕ → Mutexes → Semaphores → Bool
+blockedIn waits objects m c = allb taskPlaces (blockedAt waits objects (m .owner) (c .count) (c .n))
+
+-- the same, by whom the task leads to and by a flag of an empty semaphore at its object's place
+unfoldable pub blockedFits : ℕ → ℕ → ℕ → ℕ → ℕ → Bool
+blockedFits kind object semaphores next empty =
+    cond (eqb kind onMutex) (not (eqb next noId))
+    (cond (eqb kind onSemaphore) (ltb object semaphores and eqb empty 1) true)
+
+abbrev pub blockedFitsAt : List ℕ → List ℕ → List ℕ → List ℕ → ℕ → ℕ → Bool
+blockedFitsAt waits objects next empty semaphores i = blockedFits (getD waits i 0) (getD objects i 0) semaphores (getD next i 0) (getD empty i 0)
+
+abbrev pub emptyAt : List ℕ → ℕ → ℕ
+emptyAt counts j = cond (eqb (getD counts j 0) 0) 1 0
+
+-- what stands in a table at each task's object
+abbrev pub atObject : List ℕ → List ℕ → ℕ → ℕ
+atObject objects table i = getD table (getD objects i 0 % maxSemaphores) 0
+
+-- each task in one place: it stands in the order of waits as often as it waits, and in the two lists together once, or, where it runs, never
+unfoldable pub waitsOnce : ℕ → ℕ
+waitsOnce kind = cond (eqb kind 0) 0 1
+
+unfoldable pub standsOnce : ℕ → ℕ → ℕ → ℕ
+standsOnce n running i = cond (eqb running i) 0 (cond (ltb i n) 1 0)
+
+abbrev pub placeFits : ℕ → ℕ → ℕ → ℕ → ℕ → ℕ → Bool
+placeFits kind waits all n running i = eqb waits (waitsOnce kind) and eqb all (standsOnce n running i)
+
+abbrev pub placeAt : List ℕ → List ℕ → List ℕ → ℕ → ℕ → ℕ → Bool
+placeAt kinds waits all n running i = placeFits (getD kinds i 0) (getD waits i 0) (getD all i 0) n running i
+
+unfoldable pub placesIn : List ℕ → TaskList → TaskList → ℕ → ℕ → Bool
+placesIn kinds ready waiting n running =
+    let waits = counted (replicate taskPlaces 0) (items waiting) in
+    allb taskPlaces (placeAt kinds waits (counted waits (items ready)) n running)
+
+-- no ring: the chain of every owner ends
+unfoldable pub ringless : List ℕ → List ℕ → Mutexes → ℕ → Bool
+ringless waits objects m n =
+    let next = filled taskPlaces (λ i. ledBy (m .owner) (getD waits i 0) (getD objects i 0)) in
+    allb maxMutexes (λ j. endsb n (nextIn next) (taskAt (getD (m .owner) j 0)))
+
+-- waits are for what isn't available, and close no ring
+unfoldable pub waitsIn : List ℕ → List ℕ → Mutexes → Semaphores → ℕ → Bool
+waitsIn waits objects m c n = blockedIn waits objects m c and ringless waits objects m n
+
+-- stored levels: each is the least of the own priority and of the stored levels that are lent to the task
+abbrev pub sameAt : List ℕ → List ℕ → ℕ → Bool
+sameAt a b i = eqb (getD a i 0) (getD b i 0)
+
+unfoldable pub levelsIn : List ℕ → List ℕ → List ℕ → List ℕ → Mutexes → Bool
+levelsIn own level waits objects m =
+    let lends = filled taskPlaces (λ i. ledBy (filled maxMutexes (heirAt m)) (getD waits i 0) (getD objects i 0)) in
+    allb taskPlaces (sameAt level (lentBy own lends level taskPlaces))
+
+-- after start: who runs, and at least as urgent as the first ready one
+unfoldable pub startedIn : List ℕ → TaskList → ℕ → ℕ → Bool
+startedIn levels ready running hold = cond (eqb running noId) (eqb (ready .n) 0 and eqb hold 0)
+    (cond (eqb hold 0) (cond (eqb (ready .n) 0) true (leb (keyOf levels running) (keyOf levels (firstId ready)))) true)
 
 -- in set-up
-abbrev pub nothingOwned : Mutexes → Bool
-nothingOwned m = allb (m .n) (λ j. eqb (ownerAt m j) noId)
-
-abbrev pub outcomesZero : Tasks → Bool
-outcomesZero t = allb (t .n) (λ i. eqb (keyOf (t .outcome) i) granted)
+abbrev pub freeAt : List ℕ → ℕ → Bool
+freeAt owners j = eqb (getD owners j 0) noId
 
 unfoldable pub setUpIn : State → Bool
 setUpIn k = eqb (k .clock) 0 and eqb (k .hold) 0 and eqb (k .running) noId and eqb (k .waiting .n) 0
-    and nothingOwned (k .mutexes) and outcomesZero (k .tasks) and tiesb (keyOf (k .tasks .level)) (items (k .ready))
+    and allb maxMutexes (freeAt (k .mutexes .owner)) and allb taskPlaces (unusedAt (k .tasks .outcome) 0) and tiesb (keyOf (k .tasks .level)) (items (k .ready))
 
--- what a started record or one in set-up owes
-abbrev pub phaseIn : State → Bool
-phaseIn k = cond (eqb (k .started) 0) (setUpIn k) (startedIn k)
-
+-- all phrases, in an order in which each can rely on those before it
 unfoldable pub checks : State → Bool
-checks k = tidyb k and prioritiesIn (k .tasks) and mutexesIn (k .mutexes) (k .tasks .n) and countsIn (k .semaphores) and tasksIn k and placesIn k
-    and ringless k and levelsIn k and ascb (keyOf (k .tasks .level)) (items (k .ready)) and phaseIn k
+checks k =
+    let t = k .tasks in
+    sizesIn k and tasksIn t (k .clock) and objectsIn (k .mutexes) (k .semaphores) (t .n) and listsIn (k .ready) (k .waiting) (t .n)
+    and placesIn (t .wait) (k .ready) (k .waiting) (t .n) (k .running) and waitsIn (t .wait) (t .object) (k .mutexes) (k .semaphores) (t .n)
+    and levelsIn (t .priority) (t .level) (t .wait) (t .object) (k .mutexes)
+    and ascb (keyOf (t .level)) (items (k .ready)) and cond (eqb (k .started) 0) (setUpIn k) (startedIn (t .level) (k .ready) (k .running) (k .hold))

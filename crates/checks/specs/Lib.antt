@@ -1,4 +1,8 @@
 -- What each function of the test answers, and that all together are the definition.
 pub mod Checks
+pub mod TestedLaws
+pub mod TidyCheckLaws
 pub mod TableCheckLaws
+pub mod PlaceCheckLaws
+pub mod LevelCheckLaws
 pub mod CheckLaws

@@ -37,7 +37,12 @@ fn same_words(a: [u32; TASKS], b: [u32; TASKS]) -> bool {
 }
 
 fn same_bytes(a: [u8; TASKS], b: [u8; TASKS]) -> bool {
-    walks::agree(a, b, TASK_PLACES)
+    for i in 0..TASKS {
+        if a[i] != b[i] {
+            return false;
+        }
+    }
+    true
 }
 
 fn same_list(a: TaskList, b: TaskList) -> bool {

@@ -5,7 +5,7 @@ use mathlib.Core.Logic.{inl, inr}
 use Prim.Native.Nat.{ℕ, _+_, _<_}
 use native.Mathlib.Numerals.{add-one}
 use borrow.Author.Tests.{not-true, not-false}
-use Rattle.lists.specs.Test.{allb}
+use Rattle.lists.specs.Test.{_and_, allb}
 use Rattle.lists.specs.TestLaws.{which, clash, true-and, all-true}
 
 -- what a call answers of a test, after `if !call`
@@ -36,3 +36,12 @@ module _ (p : ℕ → Bool) where
 
   pub all-stop : {r : Bool} (j n : ℕ) → j < n → r ≡ p j → not r ≡ true → false ≡ allb n p
   all-stop j n l q h = all-fails j n l (sym (test-failed q h))
+
+-- a conjunction that is carried through the loop to its end
+module _ (p : ℕ → Bool) where
+  pub fits-more : (j : ℕ) (fits next : Bool) → fits ≡ allb j p → next ≡ p j and fits → next ≡ allb (j + 1) p
+  unfolding allb
+  fits-more j fits next e q = rw (add-one, ← e) q
+
+  pub fits-done : (j n : ℕ) (fits : Bool) → j ≡ n → fits ≡ allb j p → fits ≡ allb n p
+  fits-done j n fits q e = rw (← q) e

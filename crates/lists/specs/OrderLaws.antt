@@ -8,13 +8,13 @@ use Prim.Native.Nat.{ℕ, zero, suc, _+_, _≤_, _<_}
 use native.Mathlib.Omega.{arith}
 use native.Mathlib.Decide.{ℕ-discrete, decLt}
 use lib.Dec.{ltb, eqb}
-use lib.ListN.{length}
+use lib.ListN.{length, getD}
 use lib.Seq.{append-snoc}
 use borrow.Author.Tests.{ltb-true, ltb-false, leb-true, leb-false, eqb-true, eqb-false, not-true, lt-ltb, le-ltb, le-leb, eq-eqb, ne-eqb}
-use Rattle.lists.specs.Test.{_and_}
+use Rattle.lists.specs.Test.{_and_, allb}
 use Rattle.lists.specs.Count.{eqn, occ, member, below}
 use Rattle.lists.specs.Order.{keep, range, byId, place, insertTail, insertHead, insertAll, stable, Asc, ascb, Ties, tiesb, leastOf, leastFirst, before, inside}
-use Rattle.lists.specs.TestLaws.{which, clash, by-test, and-l, and-r, true-and, or-true, or-l, or-r, none-some}
+use Rattle.lists.specs.TestLaws.{which, clash, by-test, and-l, and-r, true-and, or-true, or-l, or-r, all-true, true-all, none-some, same-test}
 use Rattle.lists.specs.CountLaws.{eqn-at, eqn-other, occ-append, occ-head, below-out, in-below, below-le, below-suc}
 
 pub occ-place : (p : ℕ → Bool) (x y : ℕ) (l : List ℕ) → occ y (place p x l) ≡ eqn x y + occ y l
@@ -241,6 +241,21 @@ pub true-inside : (n : ℕ) (l : List ℕ) → ((i : ℕ) → n ≤ i → occ i 
 unfolding inside occ
 true-inside n [] h = refl
 true-inside n (x ∷ l) h = true-and _ _ (lt-ltb x n (elim (decLt x n) [ yes q ↦ q | no q ↦ absurd (omega (arith, h x (omega arith), eqn-at x x refl)) ])) (true-inside n l (λ i q. omega (arith, h i q)))
+
+-- the same test, place by place
+inside-each : (n : ℕ) (l : List ℕ) → inside n l ≡ true → (i : ℕ) → i < length l → ltb (getD l i 0) n ≡ true
+unfolding inside
+inside-each n [] e i h = absurd (omega arith)
+inside-each n (x ∷ l) e zero h = and-l _ _ e
+inside-each n (x ∷ l) e (suc i) h = inside-each n l (and-r _ _ e) i (omega arith)
+
+each-inside : (n : ℕ) (l : List ℕ) → ((i : ℕ) → i < length l → ltb (getD l i 0) n ≡ true) → inside n l ≡ true
+unfolding inside
+each-inside n [] h = refl
+each-inside n (x ∷ l) h = true-and _ _ (h 0 (omega arith)) (each-inside n l (λ i r. h (suc i) (omega arith)))
+
+pub inside-places : (n : ℕ) (l : List ℕ) → inside n l ≡ allb (length l) (λ i. ltb (getD l i 0) n)
+inside-places n l = same-test _ _ (λ e. true-all (length l) _ (inside-each n l e)) (λ e. each-inside n l (all-true (length l) _ e))
 
 -- the first of least key is in the list
 least-in : (f : ℕ → ℕ) (x : ℕ) (l : List ℕ) → 1 ≤ occ (leastOf f x l) (x ∷ l)

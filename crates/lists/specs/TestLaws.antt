@@ -3,9 +3,9 @@ use mathlib.Core.Path.{_≡_, refl, ap, sym, _∙_}
 use mathlib.Core.Bool.{Bool, true, false, cond}
 use mathlib.Core.Logic.{_⊎_, inl, inr}
 use mathlib.Core.Option.{Option, none, some}
-use Prim.Native.Nat.{ℕ, zero, suc, _<_}
+use Prim.Native.Nat.{ℕ, zero, suc, _≤_, _<_}
 use native.Mathlib.Omega.{arith}
-use native.Mathlib.Decide.{ℕ-discrete}
+use native.Mathlib.Decide.{ℕ-discrete, decLt}
 use borrow.Author.Tests.{eqb-true, eq-eqb}
 use Rattle.lists.specs.Test.{_and_, _or_, allb, someb, holds}
 
@@ -131,3 +131,10 @@ pub all-and : (n : ℕ) (p q : ℕ → Bool) → allb n (λ i. p i and q i) ≡ 
 all-and n p q = same-test _ _
     (λ u. true-and _ _ (true-all n p (λ i h. and-l _ _ (all-true n _ u i h))) (true-all n q (λ i h. and-r _ _ (all-true n _ u i h))))
     (λ u. true-all n _ (λ i h. true-and _ _ (all-true n p (and-l _ _ u) i h) (all-true n q (and-r _ _ u) i h)))
+
+-- a test that the places from n on pass anyway
+pub all-used : (n most : ℕ) (p : ℕ → Bool) → n ≤ most → ((i : ℕ) → n ≤ i → i < most → p i ≡ true) → allb most p ≡ allb n p
+all-used n most p h rest = same-test _ _ (λ e. true-all n p (λ i l. all-true most p e i (omega arith))) (λ e. true-all most p (λ i l. below e i l))
+  where
+    below : allb n p ≡ true → (i : ℕ) → i < most → p i ≡ true
+    below e i l = elim (decLt i n) [ yes q ↦ all-true n p e i q | no q ↦ rest i (omega arith) l ]

@@ -20,8 +20,11 @@ fn lock_waits(s: State, m: u8, time: u32) -> Out
         return answers::answer(s, no, 0);
     }
     let t = s.tasks;
+    let waits = t.wait;
+    let objects = t.object;
     let mutexes = s.mutexes;
-    let next = leads::next_of(t, mutexes);
+    let owners = mutexes.owner;
+    let next = leads::leads_of(&waits, &objects, owners);
     let f = walks::follow(&next, reads::owner_at(mutexes, m), s.running, t.n);
     if f.ring {
         return answers::answer(s, 12, f.links as u32);

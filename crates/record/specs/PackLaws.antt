@@ -25,10 +25,10 @@ use Rattle.task_lists.specs.TaskListLaws.{list-of-items}
 use Rattle.walks.specs.Walk.{taskAt}
 use Rattle.walks.specs.WalkLaws.{task-in}
 use Rattle.record.specs.Record.{awaitedBy, ticksLeft, dueAt, leftIn, waitWith, waitIn, waitAt, viewTables, view, leftCode, kindCode, objectCode, timedCode, dueCode, packTasks, packMutexes, packSemaphores, pack}
-use Rattle.record.specs.SoundRecord.{usedTaskb, unusedTaskb, idb, mutexPlaceb, semPlaceb, taskListTidyb, tidyb, levelsb}
+use Rattle.record.specs.SoundRecord.{usedTaskb, idb, mutexPlaceb, semPlaceb, taskListTidyb, tidyb, levelsb}
 use Rattle.record.specs.Setters.{putTasks, putLevel}
 use Rattle.record.specs.GoodRecord.{Typed}
-use Rattle.record.specs.TidyLaws.{tasks-fit, mutexes-fit, semaphores-fit, mutex-place, sem-place, used-task, unused-task}
+use Rattle.record.specs.TidyLaws.{tasks-fit, mutexes-fit, semaphores-fit, mutex-place, sem-place, used-task, unused-at}
 use Rattle.record.specs.ViewLaws.{stored-level, view-tasks}
 use Rattle.record.specs.declared.State.{State}  -- keep
 use Rattle.record.specs.declared.Tasks.{Tasks}  -- keep
@@ -106,33 +106,6 @@ used-codes t clock i word h e =
     (elim (or-true _ _ (and-l _ _ e3)) [ inl f ↦ inl (eqb-true _ _ f) | inr f ↦ inr (eqb-false _ _ (not-true _ f)) ])
     (elim (or-true _ _ (and-r _ _ e3)) [ inl f ↦ inl (eqb-true _ _ f) | inr f ↦ inr (eqb-true _ _ f) ])
 
-record Unused (t : Tasks) (i : ℕ) : Type 0 where
-  no-priority : getD (t .priority) i 0 ≡ 0
-  no-level : getD (t .level) i 0 ≡ 0
-  no-outcome : getD (t .outcome) i 0 ≡ 0
-  no-wait : getD (t .wait) i 0 ≡ 0
-  no-object : getD (t .object) i 0 ≡ 0
-  no-timed : getD (t .timed) i 0 ≡ 0
-  no-due : getD (t .due) i 0 ≡ 0
-
-unused-places : (t : Tasks) (i : ℕ) → unusedTaskb t i ≡ true → Unused t i
-unfolding unusedTaskb
-unused-places t i e =
-    let e1 = and-r _ _ e in
-    let e2 = and-r _ _ e1 in
-    let e3 = and-r _ _ e2 in
-    let e4 = and-r _ _ e3 in
-    let e5 = and-r _ _ e4 in
-    record {
-      no-priority = eqb-true _ _ (and-l _ _ e);
-      no-level = eqb-true _ _ (and-l _ _ e1);
-      no-outcome = eqb-true _ _ (and-l _ _ e2);
-      no-wait = eqb-true _ _ (and-l _ _ e3);
-      no-object = eqb-true _ _ (and-l _ _ e4);
-      no-timed = eqb-true _ _ (and-l _ _ e5);
-      no-due = eqb-true _ _ (and-r _ _ e5);
-    }
-
 -- records are equal where their parts are
 pub same-tasks : (a b : Tasks) → a .due ≡ b .due → a .priority ≡ b .priority → a .level ≡ b .level → a .outcome ≡ b .outcome
     → a .wait ≡ b .wait → a .object ≡ b .object → a .timed ≡ b .timed → a .n ≡ b .n → a ≡ b
@@ -163,9 +136,6 @@ task-back (some i) h = task-in i (h i refl)
 
 -- the tables of tasks
 module _ (k : State) (T : Typed k) (tidy : tidyb k ≡ true) where
-  unused-at : (i : ℕ) → k .tasks .n ≤ i → i < taskPlaces → Unused (k .tasks) i
-  unused-at i h l = unused-places (k .tasks) i (unused-task k tidy i h l)
-
   codes-at : (i : ℕ) → i < k .tasks .n
       → Codes (k .clock) (waitAt (k .tasks) (k .clock) i) (getD (k .tasks .wait) i 0) (getD (k .tasks .object) i 0) (getD (k .tasks .timed) i 0) (getD (k .tasks .due) i 0)
   codes-at i h = used-codes (k .tasks) (k .clock) i (T .clock-word) (T .due-word i) (used-task k tidy i h)
@@ -178,18 +148,18 @@ module _ (k : State) (T : Typed k) (tidy : tidyb k ≡ true) where
 
   good-levels : levelsb k ≡ true → pad taskPlaces 0 (filled (taskCount (viewTables k)) (levelIn (viewTables k))) ≡ k .tasks .level
   good-levels lv = pad-filled taskPlaces 0 (taskCount (viewTables k)) (levelIn (viewTables k)) (k .tasks .level) (omega (arith, tasks-fit k tidy, view-tasks k T tidy)) (T .level-length)
-      (λ i h. sym (stored-level k lv i (omega (arith, view-tasks k T tidy)))) (λ i h l. unused-at i (omega (arith, view-tasks k T tidy)) l .no-level)
+      (λ i h. sym (stored-level k lv i (omega (arith, view-tasks k T tidy)))) (λ i h l. unused-at k tidy i (omega (arith, view-tasks k T tidy)) l .no-level)
 
   good-tasks : levelsb k ≡ true → packTasks (viewTables k) (k .clock) ≡ k .tasks
   unfolding packTasks viewTables
   good-tasks lv = same-tasks _ _
-      (code-column (dueCode (k .clock)) (k .tasks .due) (T .due-length) (λ i h. codes-at i h .3) (λ i h l. unused-at i h l .no-due))
-      (pad-take taskPlaces 0 (k .tasks .n) (k .tasks .priority) (tasks-fit k tidy) (T .priority-length) (λ i h l. unused-at i h l .no-priority))
+      (code-column (dueCode (k .clock)) (k .tasks .due) (T .due-length) (λ i h. codes-at i h .3) (λ i h l. unused-at k tidy i h l .no-due))
+      (pad-take taskPlaces 0 (k .tasks .n) (k .tasks .priority) (tasks-fit k tidy) (T .priority-length) (λ i h l. unused-at k tidy i h l .no-priority))
       (good-levels lv)
-      (pad-take taskPlaces 0 (k .tasks .n) (k .tasks .outcome) (tasks-fit k tidy) (T .outcome-length) (λ i h l. unused-at i h l .no-outcome))
-      (code-column kindCode (k .tasks .wait) (T .wait-length) (λ i h. codes-at i h .0) (λ i h l. unused-at i h l .no-wait))
-      (code-column objectCode (k .tasks .object) (T .object-length) (λ i h. codes-at i h .1) (λ i h l. unused-at i h l .no-object))
-      (code-column timedCode (k .tasks .timed) (T .timed-length) (λ i h. codes-at i h .2) (λ i h l. unused-at i h l .no-timed))
+      (pad-take taskPlaces 0 (k .tasks .n) (k .tasks .outcome) (tasks-fit k tidy) (T .outcome-length) (λ i h l. unused-at k tidy i h l .no-outcome))
+      (code-column kindCode (k .tasks .wait) (T .wait-length) (λ i h. codes-at i h .0) (λ i h l. unused-at k tidy i h l .no-wait))
+      (code-column objectCode (k .tasks .object) (T .object-length) (λ i h. codes-at i h .1) (λ i h l. unused-at k tidy i h l .no-object))
+      (code-column timedCode (k .tasks .timed) (T .timed-length) (λ i h. codes-at i h .2) (λ i h l. unused-at k tidy i h l .no-timed))
       (view-tasks k T tidy)
 
 -- the tables of mutexes

@@ -47,8 +47,11 @@ abbrev pub nextAt : Tasks → Mutexes → ℕ → ℕ
 nextAt t m = leadsAt t (m .owner)
 
 -- who is lent the levels of those that wait for a mutex: its owner, where it is inheriting
+abbrev pub heirBy : ℕ → ℕ → ℕ
+heirBy kind owner = cond (eqb kind inheriting) owner noId
+
 abbrev pub heirAt : Mutexes → ℕ → ℕ
-heirAt m j = cond (eqb (kindAt m j) inheriting) (ownerAt m j) noId
+heirAt m j = heirBy (kindAt m j) (ownerAt m j)
 
 -- who is lent the level of i
 abbrev pub lendsAt : Tasks → Mutexes → ℕ → ℕ

@@ -1,9 +1,10 @@
 -- What the test of unused places and absent fields tells of a record, phrase by phrase.
 use mathlib.Core.Path.{_≡_}
-use mathlib.Core.Bool.{true}
+use mathlib.Core.Bool.{true, false}
 use mathlib.Core.Logic.{_⊎_, inl, inr}
 use Prim.Native.Nat.{ℕ, _≤_, _<_}
 use native.Mathlib.Omega.{arith}
+use lib.Dec.{leb, eqb}
 use lib.ListN.{getD}
 use borrow.Author.Tests.{ltb-true, leb-true, eqb-true, not-true, lt-ltb, le-ltb, eq-eqb}
 use Rattle.lists.specs.TestLaws.{clash, and-l, and-r, or-true, all-true}
@@ -11,6 +12,35 @@ use Rattle.rules.specs.Sizes.{taskPlaces, maxMutexes, maxSemaphores, onTime}
 use Rattle.task_lists.specs.TaskList.{places, noId}
 use Rattle.record.specs.SoundRecord.{usedTaskb, unusedTaskb, taskPlaceb, tasksTidyb, idb, mutexPlaceb, mutexesTidyb, semPlaceb, semaphoresTidyb, taskListTidyb, tidyb}
 use Rattle.record.specs.declared.State.{State}  -- keep
+use Rattle.record.specs.declared.Tasks.{Tasks}  -- keep
+
+-- what an unused place of a task holds
+pub record Unused (t : Tasks) (i : ℕ) : Type 0 where
+  pub no-priority : getD (t .priority) i 0 ≡ 0
+  pub no-level : getD (t .level) i 0 ≡ 0
+  pub no-outcome : getD (t .outcome) i 0 ≡ 0
+  pub no-wait : getD (t .wait) i 0 ≡ 0
+  pub no-object : getD (t .object) i 0 ≡ 0
+  pub no-timed : getD (t .timed) i 0 ≡ 0
+  pub no-due : getD (t .due) i 0 ≡ 0
+
+unused-places : (t : Tasks) (i : ℕ) → unusedTaskb t i ≡ true → Unused t i
+unfolding unusedTaskb
+unused-places t i e =
+    let e1 = and-r _ _ e in
+    let e2 = and-r _ _ e1 in
+    let e3 = and-r _ _ e2 in
+    let e4 = and-r _ _ e3 in
+    let e5 = and-r _ _ e4 in
+    record {
+      no-priority = eqb-true _ _ (and-l _ _ e);
+      no-level = eqb-true _ _ (and-l _ _ e1);
+      no-outcome = eqb-true _ _ (and-l _ _ e2);
+      no-wait = eqb-true _ _ (and-l _ _ e3);
+      no-object = eqb-true _ _ (and-l _ _ e4);
+      no-timed = eqb-true _ _ (and-l _ _ e5);
+      no-due = eqb-true _ _ (and-r _ _ e5);
+    }
 
 module _ (k : State) (tidy : tidyb k ≡ true) where
   pub tasks-fit : k .tasks .n ≤ taskPlaces
@@ -32,6 +62,10 @@ module _ (k : State) (tidy : tidyb k ≡ true) where
   pub waiting-fits : k .waiting .n ≤ places
   unfolding tidyb taskListTidyb
   waiting-fits = leb-true _ _ (and-l _ _ (and-l _ _ (and-r _ _ (and-r _ _ (and-r _ _ (and-r _ _ tidy))))))
+
+  pub started-flag : leb (k .started) 1 ≡ true
+  unfolding tidyb
+  started-flag = and-l _ _ (and-r _ _ (and-r _ _ (and-r _ _ (and-r _ _ (and-r _ _ tidy)))))
 
   pub running-id : idb (k .running) ≡ true
   unfolding tidyb
@@ -57,9 +91,12 @@ module _ (k : State) (tidy : tidyb k ≡ true) where
   unfolding taskPlaceb
   used-task i h = rw (lt-ltb i (k .tasks .n) h) at (task-place i (omega (arith, tasks-fit)))
 
-  pub unused-task : (i : ℕ) → k .tasks .n ≤ i → i < taskPlaces → unusedTaskb (k .tasks) i ≡ true
+  unused-task : (i : ℕ) → k .tasks .n ≤ i → i < taskPlaces → unusedTaskb (k .tasks) i ≡ true
   unfolding taskPlaceb
   unused-task i h l = rw (le-ltb i (k .tasks .n) h) at (task-place i l)
+
+  pub unused-at : (i : ℕ) → k .tasks .n ≤ i → i < taskPlaces → Unused (k .tasks) i
+  unused-at i h l = unused-places (k .tasks) i (unused-task i h l)
 
   -- the kind of wait is one of the four, and who does not wait has no due time
   pub wait-kind : (i : ℕ) → i < k .tasks .n → getD (k .tasks .wait) i 0 ≤ onTime
@@ -71,4 +108,12 @@ module _ (k : State) (tidy : tidyb k ≡ true) where
   timed-waits i h e = elim (or-true _ _ (and-l _ _ (and-r _ _ (and-r _ _ (and-r _ _ (used-task i h)))))) [
     | inl u ↦ eqb-true _ _ u
     | inr u ↦ absurd (clash (eq-eqb (getD (k .tasks .wait) i 0) 0 e) (not-true _ u))
+  ]
+
+  -- who has no time has no due time
+  pub untimed-due : (i : ℕ) → i < k .tasks .n → eqb (getD (k .tasks .timed) i 0) 1 ≡ false → getD (k .tasks .due) i 0 ≡ 0
+  unfolding usedTaskb
+  untimed-due i h e = elim (or-true _ _ (and-r _ _ (and-r _ _ (and-r _ _ (and-r _ _ (used-task i h)))))) [
+    | inl u ↦ eqb-true _ _ u
+    | inr u ↦ absurd (clash u e)
   ]

@@ -12,7 +12,7 @@ use lib.ListN.{length, getD, take, List·getD-eq-default, List·getD-map, length
 use lib.Seq.{length-take-le, getD-take}
 use borrow.Author.Tests.{ltb-true, eqb-true, lt-ltb, le-ltb, ne-eqb}
 use Rattle.lists.specs.Table.{filled}
-use Rattle.lists.specs.TestLaws.{which, and-l, and-r, or-true, all-true}
+use Rattle.lists.specs.TestLaws.{which, and-r, or-true, all-true}
 use Rattle.lists.specs.TableLaws.{length-filled, getD-filled, read-any}
 use Rattle.chains.specs.Least.{leastLeading}
 use Rattle.rules.specs.Sizes.{taskPlaces, maxMutexes, inheriting, onMutex, onSemaphore, onTime}
@@ -22,10 +22,10 @@ use Rattle.task_lists.specs.TaskList.{noId, keyOf}
 use Rattle.walks.specs.Walk.{taskAt, nextIn, raised}
 use Rattle.walks.specs.WalkLaws.{next-in, next-out, next-agrees, leading-own, raised-ext}
 use Rattle.record.specs.Record.{awaitedBy, waitWith, waitIn, waitAt, viewTables}
-use Rattle.record.specs.SoundRecord.{unusedTaskb, mutexPlaceb, tidyb, levelsb}
+use Rattle.record.specs.SoundRecord.{mutexPlaceb, tidyb, levelsb}
 use Rattle.record.specs.Reads.{ownerAt, kindAt, ledBy, leadsAt, nextAt, heirAt, lendsAt, newLevels, countAt, maximumAt}
 use Rattle.record.specs.GoodRecord.{Typed}
-use Rattle.record.specs.TidyLaws.{tasks-fit, mutexes-fit, semaphores-fit, mutex-place, unused-task}
+use Rattle.record.specs.TidyLaws.{tasks-fit, mutexes-fit, semaphores-fit, mutex-place, unused-at}
 use Rattle.record.specs.declared.State.{State}  -- keep
 
 -- a stored level, where stored levels are as defined
@@ -77,9 +77,8 @@ map-same f g n fit same out none-out = next-agrees (filled taskPlaces f) g n
 module _ (k : State) (T : Typed k) (tidy : tidyb k ≡ true) where
   -- behind the last task nobody waits
   pub unused-wait : (i : ℕ) → k .tasks .n ≤ i → getD (k .tasks .wait) i 0 ≡ 0
-  unfolding unusedTaskb
   unused-wait i h = elim (decLt i taskPlaces) [
-    | yes l ↦ eqb-true _ _ (and-l _ _ (and-r _ _ (and-r _ _ (and-r _ _ (unused-task k tidy i h l)))))
+    | yes l ↦ unused-at k tidy i h l .no-wait
     | no l ↦ List·getD-eq-default (k .tasks .wait) 0 (omega (arith, T .wait-length))
   ]
 

@@ -1,9 +1,18 @@
-// The test of a record.
+// The test of a record, phrase by phrase.
 ghost use mathlib.Core.Path.{_≡_};
-ghost use Rattle.checks.specs.Checks.{checks};
+ghost use Rattle.checks.specs.Checks.{sizesIn, unusedIn, tasksIn, objectsIn, listsIn, placesIn, waitsIn, levelsIn, checks};
 ghost use Rattle.record.specs.SoundRecord.{soundOf};
 ghost use Rattle.record.specs.GoodRecord.{Typed};
+use record::MAX_MUTEXES;
+use record::MAX_SEMAPHORES;
+use record::Mutexes;
+use record::NONE;
+use record::Semaphores;
 use record::State;
+use record::TASK_PLACES;
+use record::TASKS;
+use record::Tasks;
+use task_lists::TaskList;
 
 // Is the record sound? The clause `types` says nothing of the answer: it tells the caller's proof what every record of this type has.
 pub fn is_sound(s: State) -> bool
@@ -13,38 +22,184 @@ pub fn is_sound(s: State) -> bool
     check(s)
 }
 
-// All phrases, in an order in which each can rely on those before it.
+// No more of each than there are places, and the running task is one of them.
+fn sizes_in(s: State) -> bool
+    ensures { λ r. ⌜ r ≡ sizesIn s ⌝ }
+{
+    let runs = flags::either(s.running == NONE, s.running < s.tasks.n);
+    let lists = flags::both(
+        s.ready.n <= TASK_PLACES,
+        flags::both(
+            s.waiting.n <= TASK_PLACES,
+            flags::both(s.started <= 1, runs),
+        ),
+    );
+    let objects = flags::both(
+        s.mutexes.n <= MAX_MUTEXES,
+        flags::both(s.semaphores.n <= MAX_SEMAPHORES, lists),
+    );
+    flags::both(s.tasks.n <= TASK_PLACES, objects)
+}
+
+// "unused table places as in the fresh state"; due times belong to timed waits, and those to tasks.
+fn unused_in(t: Tasks) -> bool
+    ensures { λ r. ⌜ r ≡ unusedIn t ⌝ }
+{
+    let used = task_list_checks::used_places(t.n);
+    let priority = t.priority;
+    if !sound_tables::unused(&priority, &used) {
+        return false;
+    }
+    let level = t.level;
+    if !sound_tables::unused(&level, &used) {
+        return false;
+    }
+    let outcome = t.outcome;
+    if !sound_tables::unused(&outcome, &used) {
+        return false;
+    }
+    let wait = t.wait;
+    if !sound_tables::unused(&wait, &used) {
+        return false;
+    }
+    let object = t.object;
+    if !sound_tables::unused(&object, &used) {
+        return false;
+    }
+    let timed = t.timed;
+    sound_tables::unused(&timed, &used)
+}
+
+// Priorities, waits, their times and outcomes.
+fn tasks_in(t: Tasks, clock: u32) -> bool
+    ensures { λ r. ⌜ r ≡ tasksIn t clock ⌝ }
+{
+    if !unused_in(t) {
+        return false;
+    }
+    let priority = t.priority;
+    if !sound_tables::priorities(&priority) {
+        return false;
+    }
+    let wait = t.wait;
+    let object = t.object;
+    let timed = t.timed;
+    if !sound_tables::waits(&wait, &object, &timed) {
+        return false;
+    }
+    let due = t.due;
+    if !sound_tables::times(&wait, &timed, &due, clock) {
+        return false;
+    }
+    let outcome = t.outcome;
+    sound_tables::outcomes(&wait, &outcome)
+}
+
+// Kinds, owners, counts.
+fn objects_in(m: Mutexes, c: Semaphores, tasks: u8) -> bool
+    ensures { λ r. ⌜ r ≡ objectsIn m c tasks ⌝ }
+{
+    if !sound_objects::mutexes(m, tasks) {
+        return false;
+    }
+    let count = c.count;
+    let maximum = c.maximum;
+    sound_objects::semaphores(&count, &maximum, c.n)
+}
+
+// Both lists hold ids of tasks.
+fn lists_in(ready: TaskList, waiting: TaskList, tasks: u8) -> bool
+    ensures { λ r. ⌜ r ≡ listsIn ready waiting tasks ⌝ }
+{
+    let ready_ids = ready.ids;
+    let ready_used = task_list_checks::used_places(ready.n);
+    if !task_list_checks::ids_fit(&ready_ids, &ready_used, tasks) {
+        return false;
+    }
+    let waiting_ids = waiting.ids;
+    let waiting_used = task_list_checks::used_places(waiting.n);
+    task_list_checks::ids_fit(&waiting_ids, &waiting_used, tasks)
+}
+
+// Each task in one place.
+fn places_in(wait: &[u8; TASKS], ready: TaskList, waiting: TaskList, n: u8, running: u8) -> bool
+    ensures { λ r. ⌜ r ≡ placesIn (now (wait .entry)) ready waiting n running ⌝ }
+{
+    let waits = task_list_checks::count_in([0u8; TASKS], waiting);
+    let all = task_list_checks::count_in(waits, ready);
+    sound_places::places(wait, &waits, &all, n, running)
+}
+
+// Waits are for what isn't available, and there is "no ring of waits".
+fn waits_in<'a>(
+    wait: &'a [u8; TASKS],
+    object: &'a [u8; TASKS],
+    m: Mutexes,
+    c: Semaphores,
+    n: u8,
+) -> bool
+    ensures { λ r. ⌜ r ≡ waitsIn (now (wait .entry)) (now (object .entry)) m c n ⌝ }
+{
+    let owner = m.owner;
+    let next = leads::leads_of(wait, object, owner);
+    let empty = sound_objects::at_objects(object, sound_objects::empties(c));
+    if !sound_objects::blocked(wait, object, &next, &empty, c.n) {
+        return false;
+    }
+    sound_places::owners_end(&next, &owner, n)
+}
+
+// "stored levels as defined"
+fn levels_in<'a>(
+    own: [u8; TASKS],
+    level: &'a [u8; TASKS],
+    wait: &'a [u8; TASKS],
+    object: &'a [u8; TASKS],
+    m: Mutexes,
+) -> bool
+    ensures { λ r. ⌜ r ≡ levelsIn own (now (level .entry)) (now (wait .entry)) (now (object .entry)) m ⌝ }
+{
+    let heirs = leads::heirs_of(m);
+    let to = leads::leads_of(wait, object, heirs);
+    let lent = walks::lent_levels(own, &to, level);
+    sound_places::same(level, &lent)
+}
+
+// All phrases. The sizes come first: they bound the walks along chains of waits.
 fn check(s: State) -> bool
     ensures { λ r. ⌜ r ≡ checks s ⌝ }
 {
-    if !tidy::tidy(s) {
-        return false;
-    }
-    if !sound_tables::priorities_in(s.tasks) {
-        return false;
-    }
-    if !sound_tables::mutexes_in(s.mutexes, s.tasks.n) {
-        return false;
-    }
-    if !sound_tables::counts_in(s.semaphores) {
-        return false;
-    }
-    if !sound_tables::tasks_in(s) {
-        return false;
-    }
-    if !sound_places::places_in(s) {
-        return false;
-    }
-    if !sound_places::no_ring(s) {
-        return false;
-    }
-    if !sound_places::levels_in(s) {
+    if !sizes_in(s) {
         return false;
     }
     let t = s.tasks;
-    let levels = t.level;
-    if !task_list_checks::ascending(s.ready, levels) {
+    if !tasks_in(t, s.clock) {
         return false;
     }
-    sound_phase::phase_in(s)
+    if !objects_in(s.mutexes, s.semaphores, t.n) {
+        return false;
+    }
+    if !lists_in(s.ready, s.waiting, t.n) {
+        return false;
+    }
+    let wait = t.wait;
+    let object = t.object;
+    if !places_in(&wait, s.ready, s.waiting, t.n, s.running) {
+        return false;
+    }
+    if !waits_in(&wait, &object, s.mutexes, s.semaphores, t.n) {
+        return false;
+    }
+    let own = t.priority;
+    let level = t.level;
+    if !levels_in(own, &level, &wait, &object, s.mutexes) {
+        return false;
+    }
+    if !task_list_checks::ascending(s.ready, level) {
+        return false;
+    }
+    if s.started == 0 {
+        return sound_phase::set_up_in(s);
+    }
+    sound_phase::started_in(level, s.ready, s.running, s.hold)
 }

@@ -1,67 +1,52 @@
 // Does the phase, set-up or started, have what it owes?
 ghost use mathlib.Core.Path.{_≡_};
-ghost use Rattle.checks.specs.Checks.{topIn, startedIn, nothingOwned, outcomesZero, setUpIn, phaseIn};
-use record::GRANTED;
+ghost use Rattle.lists.specs.Test.{allb};
+ghost use Rattle.rules.specs.Sizes.{taskPlaces, maxMutexes};
+ghost use Rattle.checks.specs.Checks.{unusedAt, startedIn, freeAt, setUpIn};
 use record::Mutexes;
 use record::NONE;
 use record::State;
+use record::TASKS;
 use record::Tasks;
-use record::reads;
-
-// Is the running task at least as urgent as the first ready one?
-fn top_in(s: State) -> bool
-    ensures { λ r. ⌜ r ≡ topIn s ⌝ }
-{
-    let t = s.tasks;
-    let levels = t.level;
-    let q = s.ready;
-    task_lists::key_of(levels, s.running) <= task_lists::key_of(levels, q.ids[0])
-}
+use task_lists::TaskList;
 
 // After start: a task runs if any is ready; hold only with a running task; at hold 0 none ready is more urgent.
-fn started_in(s: State) -> bool
-    ensures { λ r. ⌜ r ≡ startedIn s ⌝ }
+pub fn started_in(levels: [u8; TASKS], ready: TaskList, running: u8, hold: u8) -> bool
+    ensures { λ r. ⌜ r ≡ startedIn levels ready running hold ⌝ }
 {
-    if s.running == NONE {
-        if s.ready.n != 0 {
+    if running == NONE {
+        if ready.n != 0 {
             return false;
         }
-        return s.hold == 0;
+        return hold == 0;
     }
-    if s.hold != 0 {
+    if hold != 0 {
         return true;
     }
-    if s.ready.n == 0 {
+    if ready.n == 0 {
         return true;
     }
-    top_in(s)
+    task_lists::key_of(levels, running) <= task_lists::key_of(levels, ready.ids[0])
 }
 
 fn nothing_owned(m: Mutexes) -> bool
-    ensures { λ r. ⌜ r ≡ nothingOwned m ⌝ }
+    ensures { λ r. ⌜ r ≡ allb maxMutexes (freeAt (m .owner)) ⌝ }
 {
-    for j in 0..m.n {
-        if reads::owner_at(m, j) != NONE {
-            return false;
-        }
-    }
-    true
+    let owners = m.owner;
+    sound_objects::all_free(&owners)
 }
 
+// All outcomes are 0, as those of unused places are.
 fn outcomes_zero(t: Tasks) -> bool
-    ensures { λ r. ⌜ r ≡ outcomesZero t ⌝ }
+    ensures { λ r. ⌜ r ≡ allb taskPlaces (unusedAt (t .outcome) 0) ⌝ }
 {
     let outcomes = t.outcome;
-    for i in 0..t.n {
-        if task_lists::key_of(outcomes, i) != GRANTED {
-            return false;
-        }
-    }
-    true
+    let none = task_list_checks::used_places(0);
+    sound_tables::unused(&outcomes, &none)
 }
 
 // In set-up: clock 0, hold 0, nothing running, waiting or owned, outcomes 0, equal levels by id.
-fn set_up_in(s: State) -> bool
+pub fn set_up_in(s: State) -> bool
     ensures { λ r. ⌜ r ≡ setUpIn s ⌝ }
 {
     if s.clock != 0 {
@@ -85,14 +70,4 @@ fn set_up_in(s: State) -> bool
     let t = s.tasks;
     let levels = t.level;
     task_list_checks::ties_by_id(s.ready, levels)
-}
-
-// What a started record or one in set-up owes.
-pub fn phase_in(s: State) -> bool
-    ensures { λ r. ⌜ r ≡ phaseIn s ⌝ }
-{
-    if s.started == 0 {
-        return set_up_in(s);
-    }
-    started_in(s)
 }

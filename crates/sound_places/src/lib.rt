@@ -1,70 +1,83 @@
-// Does each task stand in one place, and are chains and levels as defined?
+// Does each task stand in one place, do the chains of waits end, and are levels as defined?
 ghost use mathlib.Core.Path.{_≡_};
-ghost use Rattle.checks.specs.Checks.{placeAt, placesIn, ringless, levelsIn};
+ghost use lib.ListN.{getD};
+ghost use Rattle.lists.specs.Test.{allb};
+ghost use Rattle.chains.specs.Chain.{endsb};
+ghost use Rattle.rules.specs.Sizes.{taskPlaces, maxMutexes};
+ghost use Rattle.walks.specs.Walk.{taskAt, nextIn};
+ghost use Rattle.checks.specs.Checks.{waitsOnce, standsOnce, placeFits, placeAt, sameAt};
+use record::MUTEXES;
 use record::NO_WAIT;
-use record::NONE;
-use record::State;
+use record::TASK_PLACES;
 use record::TASKS;
 
-// Task `i` stands in one place: `waits` counts the waiting, `all` the waiting and the ready.
-fn place_at(s: State, waits: [u8; TASKS], all: [u8; TASKS], i: u8) -> bool
-    ensures { λ r. ⌜ r ≡ placeAt s waits all i ⌝ }
+// How often a task stands in the order of waits, by its kind of wait.
+fn waits_once(kind: u8) -> u8
+    ensures { λ r. ⌜ r ≡ waitsOnce kind ⌝ }
 {
-    let t = s.tasks;
-    let kinds = t.wait;
-    let mut expected: u8 = 1;
-    if task_lists::key_of(kinds, i) == NO_WAIT {
-        expected = 0;
+    if kind == NO_WAIT {
+        return 0;
     }
-    if task_lists::key_of(waits, i) != expected {
-        return false;
-    }
-    if s.running == i {
-        return task_lists::key_of(all, i) == 0;
-    }
-    task_lists::key_of(all, i) == 1
+    1
 }
 
-// Each task stands in one place: running, ready or waiting.
-pub fn places_in(s: State) -> bool
-    ensures { λ r. ⌜ r ≡ placesIn s ⌝ }
+// How often task `i` of `n` stands in the order of waits and the ready order together.
+fn stands_once(n: u8, running: u8, i: u8) -> u8
+    ensures { λ r. ⌜ r ≡ standsOnce n running i ⌝ }
 {
-    let n = s.tasks.n;
-    if !task_list_checks::ids_below(s.waiting, n) {
-        return false;
+    if running == i {
+        return 0;
     }
-    if !task_list_checks::ids_below(s.ready, n) {
-        return false;
+    if i < n {
+        return 1;
     }
-    if s.running != NONE {
-        if n <= s.running {
-            return false;
-        }
+    0
+}
+
+// Task `i` stands in one place: `waits` counts how often it waits, `all` how often it waits or is ready.
+fn place_fits(kind: u8, waits: u8, all: u8, n: u8, running: u8, i: u8) -> bool
+    ensures { λ r. ⌜ r ≡ placeFits kind waits all n running i ⌝ }
+{
+    flags::both(waits == waits_once(kind), all == stands_once(n, running, i))
+}
+
+// "each task in exactly one of running, ready, waiting", by tables of these counts.
+pub fn places<'a>(
+    kind: &'a [u8; TASKS],
+    waits: &'a [u8; TASKS],
+    all: &'a [u8; TASKS],
+    n: u8,
+    running: u8,
+) -> bool
+    ensures { λ r. ⌜ r ≡ allb taskPlaces (placeAt (now (kind .entry)) (now (waits .entry)) (now (all .entry)) n running) ⌝ }
+{
+    let mut fits = true;
+    for i in 0..TASK_PLACES {
+        let j = i as usize;
+        fits = flags::both(place_fits(kind[j], waits[j], all[j], n, running, i), fits);
     }
-    let waits = task_list_checks::count_in([0u8; TASKS], s.waiting);
-    let all = task_list_checks::count_in(waits, s.ready);
-    for i in 0..n {
-        if !place_at(s, waits, all, i) {
+    fits
+}
+
+// "no ring of waits": the chain of every owner ends. Who waits for nothing that is owned closes no ring.
+pub fn owners_end<'a>(next: &'a [u8; TASKS], owner: &'a [u8; MUTEXES], n: u8) -> bool
+    ensures { λ r. ⌜ r ≡ allb maxMutexes (λ j. endsb n (nextIn (now (next .entry))) (taskAt (getD (now (owner .entry)) j 0))) ⌝ }
+{
+    for j in 0..MUTEXES {
+        if !walks::ends(next, owner[j], n) {
             return false;
         }
     }
     true
 }
 
-// "no ring of waits"
-pub fn no_ring(s: State) -> bool
-    ensures { λ r. ⌜ r ≡ ringless s ⌝ }
+// "stored levels as defined": do two tables hold the same?
+pub fn same<'a>(level: &'a [u8; TASKS], lent: &'a [u8; TASKS]) -> bool
+    ensures { λ r. ⌜ r ≡ allb taskPlaces (sameAt (now (level .entry)) (now (lent .entry))) ⌝ }
 {
-    let next = leads::next_of(s.tasks, s.mutexes);
-    walks::all_end(&next, s.tasks.n)
-}
-
-// "stored levels as defined"
-pub fn levels_in(s: State) -> bool
-    ensures { λ r. ⌜ r ≡ levelsIn s ⌝ }
-{
-    let t = s.tasks;
-    let stored = t.level;
-    let defined = leads::new_levels(t, s.mutexes);
-    walks::agree(stored, defined, t.n)
+    let mut fits = true;
+    for i in 0..TASKS {
+        fits = flags::both(level[i] == lent[i], fits);
+    }
+    fits
 }

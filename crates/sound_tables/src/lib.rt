@@ -1,162 +1,106 @@
-// Are the numbers in a record's tables in range, and is each wait one that may stand?
+// The columns of the table of tasks: one function for each phrase of "sound state", over all places at once. Unused places pass what a task must.
 ghost use mathlib.Core.Path.{_≡_};
-ghost use Rattle.checks.specs.Checks.{prioritiesIn, mutexInRange, mutexesIn, countIn, countsIn, blockedAt, timedAt, outcomeAt, taskIn, tasksIn};
+ghost use Rattle.lists.specs.Test.{allb};
+ghost use Rattle.rules.specs.Sizes.{taskPlaces};
+ghost use Rattle.checks.specs.Checks.{unusedBy, priorityAt, waitFits, waitFitsAt, timeFits, timeFitsAt, outcomeFits, outcomeFitsAt};
 use record::FLUSHED;
 use record::GRANTED;
-use record::KINDS;
 use record::LEVELS;
 use record::MAX_TICKS;
-use record::Mutexes;
 use record::NO_WAIT;
-use record::NONE;
 use record::ON_MUTEX;
 use record::ON_SEMAPHORE;
 use record::ON_TIME;
 use record::PENDING;
-use record::Semaphores;
-use record::State;
+use record::TASKS;
 use record::TIMED_OUT;
-use record::Tasks;
 use record::reads;
 
+// "unused table places as in the fresh state": a place whose flag in `used` isn't 1 holds 0.
+pub fn unused<'a>(column: &'a [u8; TASKS], used: &'a [u8; TASKS]) -> bool
+    ensures { λ r. ⌜ r ≡ allb taskPlaces (unusedBy (now (column .entry)) (now (used .entry))) ⌝ }
+{
+    let mut fits = true;
+    for i in 0..TASKS {
+        fits = flags::both(flags::either(used[i] == 1, column[i] == 0), fits);
+    }
+    fits
+}
+
 // Priorities are in range.
-pub fn priorities_in(t: Tasks) -> bool
-    ensures { λ r. ⌜ r ≡ prioritiesIn t ⌝ }
+pub fn priorities(priority: &[u8; TASKS]) -> bool
+    ensures { λ r. ⌜ r ≡ allb taskPlaces (priorityAt (now (priority .entry))) ⌝ }
 {
-    let priorities = t.priority;
-    for i in 0..t.n {
-        if LEVELS <= task_lists::key_of(priorities, i) {
-            return false;
-        }
+    let mut fits = true;
+    for i in 0..TASKS {
+        fits = flags::both(priority[i] < LEVELS, fits);
     }
-    true
+    fits
 }
 
-// A mutex's kind is in range, and its owner exists.
-fn mutex_in(m: Mutexes, n: u8, j: u8) -> bool
-    ensures { λ r. ⌜ r ≡ mutexInRange m n j ⌝ }
+// An object only for a wait on one, a time only for a wait.
+fn wait_fits(kind: u8, object: u8, timed: u8) -> bool
+    ensures { λ r. ⌜ r ≡ waitFits kind object timed ⌝ }
 {
-    if KINDS <= reads::kind_at(m, j) {
-        return false;
-    }
-    let owner = reads::owner_at(m, j);
-    if owner == NONE {
-        return true;
-    }
-    owner < n
+    let on_object = flags::either(kind == ON_MUTEX, kind == ON_SEMAPHORE);
+    let objects = flags::either(object == 0, on_object);
+    let times = flags::both(timed <= 1, flags::either(timed == 0, kind != NO_WAIT));
+    flags::both(kind <= ON_TIME, flags::both(objects, times))
 }
 
-pub fn mutexes_in(m: Mutexes, n: u8) -> bool
-    ensures { λ r. ⌜ r ≡ mutexesIn m n ⌝ }
+// Waits are of a kind that there is, and hold what belongs to that kind.
+pub fn waits<'a>(wait: &'a [u8; TASKS], object: &'a [u8; TASKS], timed: &'a [u8; TASKS]) -> bool
+    ensures { λ r. ⌜ r ≡ allb taskPlaces (waitFitsAt (now (wait .entry)) (now (object .entry)) (now (timed .entry))) ⌝ }
 {
-    for j in 0..m.n {
-        if !mutex_in(m, n, j) {
-            return false;
-        }
+    let mut fits = true;
+    for i in 0..TASKS {
+        fits = flags::both(wait_fits(wait[i], object[i], timed[i]), fits);
     }
-    true
+    fits
 }
 
-// A count is at most its maximum, and that at least 1.
-fn count_in_range(c: Semaphores, j: u8) -> bool
-    ensures { λ r. ⌜ r ≡ countIn c j ⌝ }
+// A timed wait has 1 to 2147483647 ticks left; another has no due time and is no sleep.
+fn time_fits(kind: u8, timed: u8, due: u32, clock: u32) -> bool
+    ensures { λ r. ⌜ r ≡ timeFits kind timed due clock ⌝ }
 {
-    let maximum = reads::maximum_at(c, j);
-    if maximum < reads::count_at(c, j) {
-        return false;
-    }
-    0 < maximum
+    let left = reads::ticks_left(due, clock);
+    let in_time = flags::both(0 < left, left <= MAX_TICKS);
+    let untimed = flags::both(due == 0, kind != ON_TIME);
+    flags::choose(timed == 1, in_time, untimed)
 }
 
-pub fn counts_in(c: Semaphores) -> bool
-    ensures { λ r. ⌜ r ≡ countsIn c ⌝ }
+// "each timed wait has 1 to 2147483647 ticks left and each sleep is timed"
+pub fn times<'a>(
+    wait: &'a [u8; TASKS],
+    timed: &'a [u8; TASKS],
+    due: &'a [u32; TASKS],
+    clock: u32,
+) -> bool
+    ensures { λ r. ⌜ r ≡ allb taskPlaces (timeFitsAt (now (wait .entry)) (now (timed .entry)) (now (due .entry)) clock) ⌝ }
 {
-    for j in 0..c.n {
-        if !count_in_range(c, j) {
-            return false;
-        }
+    let mut fits = true;
+    for i in 0..TASKS {
+        fits = flags::both(time_fits(wait[i], timed[i], due[i], clock), fits);
     }
-    true
-}
-
-// What a task waits for exists and isn't available.
-fn blocked(s: State, i: u8) -> bool
-    ensures { λ r. ⌜ r ≡ blockedAt s i ⌝ }
-{
-    let t = s.tasks;
-    let kinds = t.wait;
-    let objects = t.object;
-    let kind = task_lists::key_of(kinds, i);
-    let object = task_lists::key_of(objects, i);
-    if kind == ON_MUTEX {
-        if s.mutexes.n <= object {
-            return false;
-        }
-        return reads::owner_at(s.mutexes, object) != NONE;
-    }
-    if kind == ON_SEMAPHORE {
-        if s.semaphores.n <= object {
-            return false;
-        }
-        return reads::count_at(s.semaphores, object) == 0;
-    }
-    true
-}
-
-// A timed wait has 1 to 2147483647 ticks left, and a sleep is timed.
-fn timed(t: Tasks, clock: u32, i: u8) -> bool
-    ensures { λ r. ⌜ r ≡ timedAt t clock i ⌝ }
-{
-    let flags = t.timed;
-    let kinds = t.wait;
-    if task_lists::key_of(flags, i) != 1 {
-        return task_lists::key_of(kinds, i) != ON_TIME;
-    }
-    let left = reads::ticks_left(reads::due_of(t, i), clock);
-    if left == 0 {
-        return false;
-    }
-    left <= MAX_TICKS
+    fits
 }
 
 // A task's outcome is 1 exactly where it waits.
-fn outcome_in(t: Tasks, i: u8) -> bool
-    ensures { λ r. ⌜ r ≡ outcomeAt t i ⌝ }
+fn outcome_fits(kind: u8, outcome: u8) -> bool
+    ensures { λ r. ⌜ r ≡ outcomeFits kind outcome ⌝ }
 {
-    let kinds = t.wait;
-    let outcomes = t.outcome;
-    let outcome = task_lists::key_of(outcomes, i);
-    if task_lists::key_of(kinds, i) != NO_WAIT {
-        return outcome == PENDING;
-    }
-    if outcome == GRANTED {
-        return true;
-    }
-    if outcome == TIMED_OUT {
-        return true;
-    }
-    outcome == FLUSHED
+    let late = flags::either(outcome == TIMED_OUT, outcome == FLUSHED);
+    let ended = flags::either(outcome == GRANTED, late);
+    flags::choose(kind == NO_WAIT, ended, outcome == PENDING)
 }
 
-fn task_in(s: State, i: u8) -> bool
-    ensures { λ r. ⌜ r ≡ taskIn s i ⌝ }
+// "outcomes 0, 1, 20 or 21, and 1 exactly for waiting tasks"
+pub fn outcomes<'a>(wait: &'a [u8; TASKS], outcome: &'a [u8; TASKS]) -> bool
+    ensures { λ r. ⌜ r ≡ allb taskPlaces (outcomeFitsAt (now (wait .entry)) (now (outcome .entry))) ⌝ }
 {
-    if !blocked(s, i) {
-        return false;
+    let mut fits = true;
+    for i in 0..TASKS {
+        fits = flags::both(outcome_fits(wait[i], outcome[i]), fits);
     }
-    if !timed(s.tasks, s.clock, i) {
-        return false;
-    }
-    outcome_in(s.tasks, i)
-}
-
-pub fn tasks_in(s: State) -> bool
-    ensures { λ r. ⌜ r ≡ tasksIn s ⌝ }
-{
-    for i in 0..s.tasks.n {
-        if !task_in(s, i) {
-            return false;
-        }
-    }
-    true
+    fits
 }

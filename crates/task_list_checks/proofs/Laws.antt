@@ -35,10 +35,6 @@ true-and-r : (a b : Bool) → a ≡ true → a and b ≡ b
 unfolding _and_
 true-and-r a b e = rw e
 
--- nothing stands in the unused places below n
-abbrev pub restUpTo : TaskList → ℕ → Bool
-restUpTo q n = allb n (λ i. ltb i (q .n) or eqb (getD (q .ids) i 0) noId)
-
 module _ (q : TaskList) where
   -- the counts raised
   pub counted-step : (c : List ℕ) (i : ℕ) → i < length (items q)
@@ -97,32 +93,3 @@ module _ (q : TaskList) where
 
   pub tiesb-end : (f : ℕ → ℕ) (i : ℕ) → length (items q) ≤ i → tiesb f (drop (i - 1) (items q)) ≡ true
   tiesb-end f i h = tiesb-short f _ (omega (arith, length-drop (i - 1) (items q)))
-
-  -- every id below n
-  inside-step : (n i : ℕ) → i < length (items q) → inside n (drop i (items q)) ≡ ltb (getD (q .ids) i 0) n and inside n (drop (i + 1) (items q))
-  unfolding inside
-  inside-step n i h = rw (items-step q i h)
-
-  pub inside-on : (n i : ℕ) → i < length (items q) → getD (q .ids) i 0 < n → inside n (drop i (items q)) ≡ inside n (drop (i + 1) (items q))
-  unfolding _and_
-  inside-on n i h k = rw (inside-step n i h, lt-ltb _ _ k)
-
-  pub inside-fail : (n i : ℕ) → i < length (items q) → n ≤ getD (q .ids) i 0 → inside n (drop i (items q)) ≡ false
-  unfolding _and_
-  inside-fail n i h k = rw (inside-step n i h, le-ltb _ _ k)
-
-  pub inside-end : (n i : ℕ) → length (items q) ≤ i → inside n (drop i (items q)) ≡ true
-  unfolding inside
-  inside-end n i h = rw (items-end q i h)
-
-  -- the unused places from the length on
-  pub rest-start : restUpTo q (length (items q)) ≡ true
-  rest-start = true-all (length (items q)) _ (λ i h. or-l _ _ (lt-ltb i (q .n) (omega (arith, length-take (q .n) (q .ids)))))
-
-  pub rest-step : (i : ℕ) → getD (q .ids) i 0 ≡ noId → restUpTo q i ≡ true → restUpTo q (i + 1) ≡ true
-  unfolding allb
-  rest-step i e h = rw add-one (true-and _ _ (or-r _ _ (eq-eqb _ _ e)) h)
-
-  pub rest-fail : (i : ℕ) → length (q .ids) ≡ places → length (items q) ≤ i → i < places → (getD (q .ids) i 0 ≡ noId → ⊥) → restEmpty q ≡ false
-  unfolding _or_
-  rest-fail i g h k e = sym (all-fails _ i places k (sym (rw (le-ltb i (q .n) (omega (arith, length-take (q .n) (q .ids))), ne-eqb _ _ e))))

@@ -1,7 +1,9 @@
 // What the test of a record asks of a list, and how often each task stands there.
 ghost use mathlib.Core.Path.{_≡_};
-ghost use Rattle.lists.specs.Order.{ascb, tiesb, inside};
-ghost use Rattle.task_lists.specs.TaskList.{items, keyOf, restEmpty, counted};
+ghost use Rattle.lists.specs.Order.{ascb, tiesb};
+ghost use Rattle.lists.specs.Test.{allb};
+ghost use Rattle.rules.specs.Sizes.{taskPlaces};
+ghost use Rattle.task_lists.specs.TaskList.{items, keyOf, counted, usedAt, usedPlaces, idFitsBy};
 use task_lists::NONE;
 use task_lists::PLACES;
 use task_lists::TaskList;
@@ -57,28 +59,35 @@ pub fn ties_by_id(q: TaskList, keys: [u8; PLACES]) -> bool
     true
 }
 
-// Is every id below `n`?
-pub fn ids_below(q: TaskList, n: u8) -> bool
-    ensures { λ r. ⌜ r ≡ inside n (items q) ⌝ }
+// 1 for a place that a count uses.
+fn used_flag(i: u8, n: u8) -> u8
+    ensures { λ r. ⌜ r ≡ usedAt n i ⌝ }
 {
-    let m = task_lists::len(q);
-    for i in 0..m {
-        if n <= q.ids[i] {
-            return false;
-        }
+    if i < n {
+        return 1;
     }
-    true
+    0
 }
 
-// Are the unused places empty?
-pub fn rest_empty(q: TaskList) -> bool
-    ensures { λ r. ⌜ r ≡ restEmpty q ⌝ }
+// The flags of the first `n` places.
+pub fn used_places(n: u8) -> [u8; PLACES]
+    ensures { λ r. ⌜ r ≡ usedPlaces n ⌝ }
 {
-    let n = task_lists::len(q);
-    for i in n..PLACES {
-        if q.ids[i] != NONE {
-            return false;
-        }
+    let mut f = [0u8; PLACES];
+    for i in 0..PLACES as u8 {
+        f[i as usize] = used_flag(i, n);
     }
-    true
+    f
+}
+
+// Does each used place of a list hold the id of one of `tasks`, and each unused one NONE?
+pub fn ids_fit<'a>(ids: &'a [u8; PLACES], used: &'a [u8; PLACES], tasks: u8) -> bool
+    ensures { λ r. ⌜ r ≡ allb taskPlaces (idFitsBy (now (ids .entry)) (now (used .entry)) tasks) ⌝ }
+{
+    let mut fits = true;
+    for i in 0..PLACES {
+        let id = ids[i];
+        fits = flags::both(flags::choose(used[i] == 1, id < tasks, id == NONE), fits);
+    }
+    fits
 }

@@ -7,7 +7,7 @@ use lib.Dec.{ltb, leb, eqb}
 use lib.ListN.{length, getD, set, take, drop}
 use Rattle.lists.specs.Test.{_and_, _or_, allb}
 use Rattle.lists.specs.Order.{keep, firstFrom}
-use Rattle.lists.specs.Table.{pad}
+use Rattle.lists.specs.Table.{pad, filled}
 use Rattle.rules.specs.Sizes.{taskPlaces, levels}
 use Rattle.task_lists.specs.declared.TaskList.{TaskList}
 
@@ -30,6 +30,24 @@ taskListOf l = record { ids = pad places noId l; n = length l }
 -- nothing stands in the unused places
 abbrev pub restEmpty : TaskList → Bool
 restEmpty q = allb places (λ i. ltb i (q .n) or eqb (getD (q .ids) i 0) noId)
+
+-- flags of the places that a count uses
+abbrev pub usedAt : ℕ → ℕ → ℕ
+usedAt n i = cond (ltb i n) 1 0
+
+unfoldable pub usedPlaces : ℕ → List ℕ
+usedPlaces n = filled places (usedAt n)
+
+-- an id of one of so many tasks; in an unused place, none
+unfoldable pub idFits : Bool → ℕ → ℕ → Bool
+idFits used tasks id = cond used (ltb id tasks) (eqb id noId)
+
+abbrev pub idFitsAt : List ℕ → ℕ → ℕ → ℕ → Bool
+idFitsAt ids n tasks i = idFits (ltb i n) tasks (getD ids i 0)
+
+-- the same by flags of the used places
+abbrev pub idFitsBy : List ℕ → List ℕ → ℕ → ℕ → Bool
+idFitsBy ids used tasks i = idFits (eqb (getD used i 0) 1) tasks (getD ids i 0)
 
 -- a task's number in a table, with 0 for a task that has no place there
 abbrev pub keyOf : List ℕ → ℕ → ℕ

@@ -1,7 +1,7 @@
 -- Laws of lists: what each operation makes of a list in which a list stands.
 use mathlib.Core.Path.{_≡_, refl, ap, sym, _∙_}
 use mathlib.Core.List.{List, [], _∷_, _++_}
-use mathlib.Core.Bool.{Bool, true}
+use mathlib.Core.Bool.{Bool, true, false, cond}
 use mathlib.Core.Logic.{inl, inr}
 use Prim.Native.Nat.{ℕ, zero, suc, _+_, _-_, _%_, _≤_, _<_}
 use native.Mathlib.Omega.{arith}
@@ -9,17 +9,17 @@ use native.Mathlib.Numerals.{add-one}
 use native.Mathlib.Decide.{ℕ-discrete, decLt}
 use lib.Dec.{ltb, leb, eqb}
 use lib.ListN.{length, getD, set, take, drop, length-append, length-set, replicate, take-append-drop, length-take, length-drop, length-replicate, getD-replicate}
-use lib.Seq.{getD-set-same, getD-set-other, take-at, take-append-le, drop-append-le, drop-append-add, getD-append-add, getD-drop, ext-getD, length-take-le}
-use borrow.Author.Tests.{ltb-true, eqb-true, lt-ltb, eq-eqb}
-use Rattle.lists.specs.Test.{_or_}
+use lib.Seq.{getD-set-same, getD-set-other, take-at, take-append-le, drop-append-le, drop-append-add, getD-append-add, getD-drop, getD-take, ext-getD, length-take-le}
+use borrow.Author.Tests.{ltb-true, eqb-true, lt-ltb, le-ltb, eq-eqb}
+use Rattle.lists.specs.Test.{_and_, _or_, allb}
 use Rattle.lists.specs.Count.{occ}
-use Rattle.lists.specs.Order.{keep, range, byId, place, insertTail, insertHead, insertAll}
+use Rattle.lists.specs.Order.{keep, range, byId, place, insertTail, insertHead, insertAll, inside}
 use Rattle.lists.specs.Table.{pad}
-use Rattle.lists.specs.TestLaws.{which, by-test, or-true, or-l, or-r, all-true, true-all}
+use Rattle.lists.specs.TestLaws.{which, by-test, and-l, and-r, true-and, same-test, or-true, or-l, or-r, all-true, true-all}
 use Rattle.lists.specs.CountLaws.{eqn-at, eqn-other}
-use Rattle.lists.specs.OrderLaws.{insertAll-append, keep-append}
-use Rattle.lists.specs.TableLaws.{pad-snoc}
-use Rattle.task_lists.specs.TaskList.{places, noId, items, taskListOf, restEmpty, keyOf, pushed, placeOf, insertedAt, inserted, kept, insertedIf, insertedFlagged, counted}
+use Rattle.lists.specs.OrderLaws.{insertAll-append, keep-append, inside-places}
+use Rattle.lists.specs.TableLaws.{pad-snoc, getD-filled}
+use Rattle.task_lists.specs.TaskList.{places, noId, items, taskListOf, restEmpty, usedAt, usedPlaces, idFits, idFitsAt, keyOf, pushed, placeOf, insertedAt, inserted, kept, insertedIf, insertedFlagged, counted}
 use Rattle.task_lists.specs.declared.TaskList.{TaskList}
 
 -- two lists are equal where their parts are
@@ -194,3 +194,46 @@ rest-taskListOf l = true-all places _ (λ i h. elim (decLt i (length l)) [
     behind : (i : ℕ) → length l ≤ i → i < places → getD (l ++ replicate (places - length l) noId) i 0 ≡ noId
     behind i u h = let e : i ≡ length l + (i - length l) = omega arith in
         rw e (getD-append-add l (replicate (places - length l) noId) (i - length l) 0 ∙ getD-replicate (places - length l) (i - length l) noId 0 (omega arith))
+
+-- one place of a list whose ids are tested
+module _ (q : TaskList) (tasks i : ℕ) where
+  id-used : i < q .n → idFitsAt (q .ids) (q .n) tasks i ≡ ltb (getD (items q) i 0) tasks
+  unfolding idFits
+  id-used h = rw (lt-ltb i (q .n) h, getD-take (q .n) (q .ids) i 0 h) refl
+
+  id-unused : q .n ≤ i → idFitsAt (q .ids) (q .n) tasks i ≡ eqb (getD (q .ids) i 0) noId
+  unfolding idFits
+  id-unused h = rw (le-ltb i (q .n) h) refl
+
+-- ids of tasks in the used places and none in the others
+pub ids-fit : (q : TaskList) (tasks : ℕ) → q .n ≤ places → length (q .ids) ≡ places
+    → allb places (idFitsAt (q .ids) (q .n) tasks) ≡ inside tasks (items q) and restEmpty q
+ids-fit q tasks h k = rw (inside-places tasks (items q), size) (same-test _ _
+    (λ e. true-and _ _
+    (true-all (q .n) _ (λ i u. sym (id-used q tasks i u) ∙ all-true places _ e i (omega arith)))
+    (true-all places _ (λ i l. elim (decLt i (q .n)) [
+      | yes u ↦ or-l _ _ (lt-ltb i (q .n) u)
+      | no u ↦ or-r _ _ (sym (id-unused q tasks i (omega arith)) ∙ all-true places _ e i l)
+    ])))
+    (λ e. true-all places _ (λ i l. elim (decLt i (q .n)) [
+      | yes u ↦ id-used q tasks i u ∙ all-true (q .n) _ (and-l _ _ e) i u
+      | no u ↦ id-unused q tasks i (omega arith) ∙ empty (and-r _ _ e) i (omega arith) l
+    ])))
+  where
+    size : length (items q) ≡ q .n
+    size = length-take-le (q .n) (q .ids) (omega arith)
+
+    empty : restEmpty q ≡ true → (i : ℕ) → q .n ≤ i → i < places → eqb (getD (q .ids) i 0) noId ≡ true
+    empty e i u l = elim (or-true _ _ (all-true places (λ j. ltb j (q .n) or eqb (getD (q .ids) j 0) noId) e i l)) [
+      | inl v ↦ absurd (omega (arith, ltb-true i (q .n) v))
+      | inr v ↦ v
+    ]
+
+-- a flag of the used places tells whether the place is used
+pub used-flag : (n i : ℕ) → i < places → eqb (getD (usedPlaces n) i 0) 1 ≡ ltb i n
+unfolding usedPlaces
+used-flag n i h = rw (getD-filled places (usedAt n) 0 i h) (go (ltb i n))
+  where
+    go : (b : Bool) → eqb (cond b 1 0) 1 ≡ b
+    go true = refl
+    go false = refl

@@ -15,7 +15,7 @@ use Rattle.lists.specs.TestLaws.{by-test}
 use Rattle.lists.specs.CountLaws.{eqn-at, eqn-other}
 use Rattle.chains.specs.Chain.{walk, endsb}
 use Rattle.rules.specs.Sizes.{taskPlaces}
-use Rattle.walks.specs.Walk.{taskAt, nextIn, lifted, raised, chainFrom}
+use Rattle.walks.specs.Walk.{taskAt, nextIn, lifted, raised, chainFrom, lent, lentBy}
 use Rattle.walks.specs.WalkLaws.{task-in, task-out, next-in, getD-lifted}
 
 -- the chain from an id: spent fuel, no task, and one task more
@@ -146,13 +146,14 @@ raised-alone own next l n j e some-fuel task nowhere =
 pub raised-done : (own next l : List ℕ) (n j m : ℕ) → m ≡ j → l ≡ raised own next n j → l ≡ raised own next n m
 raised-done own next l n j m q e = rw q e
 
--- the chain after i ends, within n
-abbrev pub endsAfter : List ℕ → ℕ → ℕ → Bool
-endsAfter next n i = endsb n (nextIn next) (nextIn next i)
+-- what is lent, task by task
+pub lent-none : (own to level : List ℕ) → own ≡ lentBy own to level 0
+unfolding lentBy
+lent-none own to level = refl
 
-pub ends-read : (next : List ℕ) (n i : ℕ) (r : Bool) → i < taskPlaces → r ≡ endsb n (nextIn next) (taskAt (getD next i 0)) → r ≡ endsAfter next n i
-ends-read next n i r h e = e ∙ ap (endsb n (nextIn next)) (sym (next-in next i h))
+pub lent-step : (own to level l m : List ℕ) (j : ℕ) → l ≡ lentBy own to level j → m ≡ lent l (getD to j 0) (getD level j 0) → m ≡ lentBy own to level (j + 1)
+unfolding lentBy
+lent-step own to level l m j e f = rw (add-one, ← e) f
 
--- two tables have the same at i
-abbrev pub sameAt : List ℕ → List ℕ → ℕ → Bool
-sameAt a b i = eqb (getD a i 0) (getD b i 0)
+pub lent-done : (own to level l : List ℕ) (j n : ℕ) → j ≡ n → l ≡ lentBy own to level j → l ≡ lentBy own to level n
+lent-done own to level l j n q e = rw (← q) e

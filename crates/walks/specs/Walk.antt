@@ -29,3 +29,12 @@ raised own next n (suc j) = lifted (raised own next n j) (getD own j 0) (walk n 
 -- the chain from an id, at most as long as the fuel
 abbrev pub chainFrom : List ℕ → ℕ → ℕ → List ℕ
 chainFrom next at fuel = walk fuel (nextIn next) (taskAt at)
+
+-- one task raised to p, where that is more urgent; an id that no task can have names none
+unfoldable pub lent : List ℕ → ℕ → ℕ → List ℕ
+lent levels o p = cond (ltb o taskPlaces) (set levels o (min p (getD levels o 0))) levels
+
+-- the own priorities, each raised to the levels that the first n tasks lend to that task, by a table of ids
+unfoldable pub lentBy : List ℕ → List ℕ → List ℕ → ℕ → List ℕ
+lentBy own to level zero = own
+lentBy own to level (suc j) = lent (lentBy own to level j) (getD to j 0) (getD level j 0)

@@ -1,21 +1,24 @@
 -- Laws of walks over a table of ids: the levels they leave are the least values that lead to each task.
 use mathlib.Core.Path.{_≡_, refl, ap, sym, _∙_, fun-ext}
 use mathlib.Core.List.{List, [], _∷_}
-use mathlib.Core.Bool.{Bool, false, cond}
+use mathlib.Core.Bool.{Bool, cond}
 use mathlib.Core.Option.{Option, none, some}
 use Prim.Native.Nat.{ℕ, zero, suc, _+_, _≤_, _<_, min}
 use native.Mathlib.Omega.{arith}
 use native.Mathlib.Decide.{ℕ-discrete, decLt}
+use lib.Dec.{ltb, eqb}
 use lib.ListN.{length, getD, set, length-set, List·getD-eq-default}
 use lib.Seq.{getD-set-same, getD-set-other, set-out}
-use borrow.Author.Tests.{lt-ltb, le-ltb}
+use borrow.Author.Tests.{lt-ltb, le-ltb, eq-eqb, ne-eqb}
+use Rattle.lists.specs.Test.{holds}
 use Rattle.lists.specs.Count.{eqn, occ, member}
 use Rattle.lists.specs.TestLaws.{by-test, some-same}
 use Rattle.lists.specs.CountLaws.{eqn-at, eqn-other}
 use Rattle.chains.specs.Chain.{walk, endsb}
 use Rattle.chains.specs.Least.{least, leadsTo, leastLeading}
+use Rattle.chains.specs.LeastLaws.{least-same, least-used}
 use Rattle.rules.specs.Sizes.{taskPlaces}
-use Rattle.walks.specs.Walk.{taskAt, nextIn, lifted, raised}
+use Rattle.walks.specs.Walk.{taskAt, nextIn, lifted, raised, lent, lentBy}
 
 -- the task of an id
 module _ (x : ℕ) where
@@ -24,6 +27,14 @@ module _ (x : ℕ) where
 
   pub task-out : taskPlaces ≤ x → taskAt x ≡ none
   task-out h = rw (le-ltb x taskPlaces h) refl
+
+-- whether an id's task is i
+holds-task : (x i : ℕ) → i < taskPlaces → holds (taskAt x) i ≡ eqb x i
+unfolding holds
+holds-task x i h = elim (decLt x taskPlaces) [
+  | yes l ↦ rw (task-in x l) refl
+  | no l ↦ rw (task-out x (omega arith)) (sym (ne-eqb x i (λ e. omega arith)))
+]
 
 -- the task after i
 module _ (next : List ℕ) (i : ℕ) where
@@ -127,16 +138,38 @@ walk-below f n b i h (suc fuel) (some j) s =
     let q : j < n = s j refl in
     omega (arith, eqn-other j i (λ e. omega arith), walk-below f n b i h fuel (f j) (λ m. b j m q))
 
-least-none : (n : ℕ) (p : ℕ → Bool) (f : ℕ → ℕ) (d : ℕ) → ((j : ℕ) → j < n → p j ≡ false) → least n p f d ≡ d
-unfolding least
-least-none zero p f d h = refl
-least-none (suc n) p f d h = rw (h n (omega arith)) (least-none n p f d (λ j q. h j (omega arith)))
-
 -- the levels of the others stay
 pub raised-out : (own next : List ℕ) (n : ℕ) → n ≤ taskPlaces → ((k m : ℕ) → k < n → nextIn next k ≡ some m → m < n)
     → (i : ℕ) → n ≤ i → getD (raised own next n n) i 0 ≡ getD own i 0
-unfolding leadsTo
+unfolding least leadsTo
 raised-out own next n h b i q =
     getD-raised own next n n i h
-    ∙ least-none n (λ k. leadsTo n (nextIn next) k i) (λ k. getD own k 0) (getD own i 0)
-    (λ j r. rw (walk-below (nextIn next) n b i q n (some j) (λ m e. omega (arith, some-same e))) refl)
+    ∙ least-used 0 n (λ k. leadsTo n (nextIn next) k i) (λ k. getD own k 0) (getD own i 0) (omega arith)
+    (λ j z r. rw (walk-below (nextIn next) n b i q n (some j) (λ m e. omega (arith, some-same e))) refl)
+
+-- one task raised, and no other
+getD-lent : (levels : List ℕ) (o p i : ℕ) → i < taskPlaces → getD (lent levels o p) i 0 ≡ cond (eqb o i) (min p (getD levels i 0)) (getD levels i 0)
+unfolding lent
+getD-lent levels o p i h = elim (ℕ-discrete o i) [
+  | yes e ↦ rw (e, eq-eqb i i refl, lt-ltb i taskPlaces h) (raise-same levels i p)
+  | no n ↦ rw (ne-eqb o i n) (by-test (λ (l : List ℕ). getD l i 0 ≡ getD levels i 0) (ltb o taskPlaces)
+      (λ u. getD-set-other levels o i (min p (getD levels o 0)) 0 (λ e. n (sym e)))
+      (λ u. refl))
+]
+
+module _ (own to level : List ℕ) where
+  -- after j tasks, the least of the task's own and of what those lend it
+  pub getD-lentBy : (j i : ℕ) → i < taskPlaces
+      → getD (lentBy own to level j) i 0 ≡ least j (λ k. eqb (getD to k 0) i) (λ k. getD level k 0) (getD own i 0)
+  unfolding lentBy least
+  getD-lentBy zero i h = refl
+  getD-lentBy (suc j) i h = getD-lent (lentBy own to level j) (getD to j 0) (getD level j 0) i h ∙ rw (getD-lentBy j i h) refl
+
+  -- the same over a map that agrees with the table, and leads nowhere from n on
+  pub lent-ext : (n : ℕ) (f : ℕ → Option ℕ) → n ≤ taskPlaces → ((k : ℕ) → nextIn to k ≡ f k) → ((k : ℕ) → n ≤ k → f k ≡ none)
+      → (i : ℕ) → i < taskPlaces → getD (lentBy own to level taskPlaces) i 0 ≡ least n (λ k. holds (f k) i) (λ k. getD level k 0) (getD own i 0)
+  unfolding holds
+  lent-ext n f fit same out i h =
+      getD-lentBy taskPlaces i h
+      ∙ least-same taskPlaces _ (λ k. holds (f k) i) _ _ (λ k l. sym (holds-task (getD to k 0) i h) ∙ ap (λ (o : Option ℕ). holds o i) (sym (next-in to k l) ∙ same k))
+      ∙ least-used n taskPlaces (λ k. holds (f k) i) _ _ fit (λ k a l. rw (out k a) refl)

@@ -1,14 +1,12 @@
 // Walks from waiter to owner: `next` holds, for each task, the id of the task it leads to; a number that no task can have leads nowhere.
 ghost use mathlib.Core.Path.{_≡_};
 ghost use Prim.Native.Nat.{_≤_, min};
-ghost use lib.ListN.{length, getD};
-ghost use lib.Dec.{eqb};
-ghost use Rattle.lists.specs.Test.{allb};
+ghost use lib.ListN.{length};
 ghost use Rattle.lists.specs.Count.{member};
 ghost use Rattle.lists.specs.Order.{before};
 ghost use Rattle.chains.specs.Chain.{endsb};
 ghost use Rattle.rules.specs.Sizes.{taskPlaces};
-ghost use Rattle.walks.specs.Walk.{taskAt, nextIn, lifted, raised, chainFrom};
+ghost use Rattle.walks.specs.Walk.{taskAt, nextIn, lifted, raised, chainFrom, lent, lentBy};
 
 // How many tasks a table has places for.
 pub const TASKS: usize = 16;
@@ -50,6 +48,30 @@ pub fn levels_of(own: [u8; TASKS], next: &[u8; TASKS], n: u8) -> [u8; TASKS]
             lift(&mut l, next, j, own[i], n);
         }
         j += 1;
+    }
+    l
+}
+
+// One task raised to `p`, where that is more urgent.
+fn lend(levels: &mut [u8; TASKS], to: u8, p: u8)
+    ensures { λ _. ⌜ now (levels .exit) ≡ lent (now (levels .entry)) to p ⌝ }
+{
+    let o = to as usize;
+    if TASKS <= o {
+        return;
+    }
+    if p < levels[o] {
+        levels[o] = p;
+    }
+}
+
+// Each task's own priority, or the most urgent level that is lent to it by those that lead to it: one link of each chain.
+pub fn lent_levels<'a>(own: [u8; TASKS], to: &'a [u8; TASKS], level: &'a [u8; TASKS]) -> [u8; TASKS]
+    ensures { λ r. ⌜ r ≡ lentBy own (now (to .entry)) (now (level .entry)) taskPlaces ⌝ }
+{
+    let mut l = own;
+    for i in 0..TASKS {
+        lend(&mut l, to[i], level[i]);
     }
     l
 }
@@ -96,40 +118,4 @@ pub fn ends(next: &[u8; TASKS], at: u8, fuel: u8) -> bool
         return false;
     }
     ends(next, next[i], fuel - 1)
-}
-
-// Whether the chain of each of the first `n` tasks ends.
-pub fn all_end(next: &[u8; TASKS], n: u8) -> bool
-    ensures { λ r. ⌜ r ≡ allb (min n taskPlaces) (λ i. endsb n (nextIn (now (next .entry))) (nextIn (now (next .entry)) i)) ⌝ }
-{
-    let mut t: u8 = 0;
-    while t < n {
-        let i = t as usize;
-        if TASKS <= i {
-            return true;
-        }
-        if !ends(next, next[i], n) {
-            return false;
-        }
-        t += 1;
-    }
-    true
-}
-
-// Whether two tables agree on the first `n` tasks.
-pub fn agree(a: [u8; TASKS], b: [u8; TASKS], n: u8) -> bool
-    ensures { λ r. ⌜ r ≡ allb (min n taskPlaces) (λ i. eqb (getD a i 0) (getD b i 0)) ⌝ }
-{
-    let mut k: u8 = 0;
-    while k < n {
-        let i = k as usize;
-        if TASKS <= i {
-            return true;
-        }
-        if a[i] != b[i] {
-            return false;
-        }
-        k += 1;
-    }
-    true
 }

@@ -1,12 +1,14 @@
 -- `leads::heirs_of` meets its contract. The loop: the places passed hold their mutexes' heirs.
 use borrow.Author.Needs.{needs}
-use mathlib.Core.Path.{_≡_}
+use mathlib.Core.Path.{_≡_, ap, _∙_}
 use Prim.Native.Nat.{_-_, _≤_}
 use native.Mathlib.Omega.{arith}
 use Rattle.lists.specs.FillLaws.{fill-done, fill-more, fill-none, soFar}
 use Rattle.rules.specs.Sizes.{maxMutexes}
+use lib.ListN.{length, getD}
+use Rattle.lists.specs.TableLaws.{read-any}
 use Rattle.task_lists.specs.TaskList.{noId}
-use Rattle.record.specs.Reads.{heirAt}
+use Rattle.record.specs.Reads.{heirBy, heirAt}
 use Rattle.leads.proofs.heirs_of.Statement.{statement}
 use Rattle.leads.proofs.heirs_of.Tie as tie
 
@@ -17,10 +19,16 @@ abbrev μ-loop : tie.MeasureT-loop
 μ-loop m a₀ i₀ a i = maxMutexes - i
 
 loop-holds : tie.Need-loop-holds Inv-loop μ-loop
-loop-holds c = (search needs, fill-none maxMutexes (heirAt (c .args .m)) noId)
+loop-holds c = let a = c .args in (search needs, fill-none maxMutexes (heirAt (a .t1)) noId)
 
-heir-of-requires : tie.Need-heir-of-requires Inv-loop μ-loop
-heir-of-requires c κs = search needs
+element-copy-out-heir : tie.Need-element-copy-out-heir Inv-loop μ-loop
+element-copy-out-heir c = search needs
+
+element-copy-out-heir-2 : tie.Need-element-copy-out-heir-2 Inv-loop μ-loop
+element-copy-out-heir-2 c = search needs
+
+heir-requires : tie.Need-heir-requires Inv-loop μ-loop
+heir-requires c κs = search needs
 
 array-write-a : tie.Need-array-write-a Inv-loop μ-loop
 array-write-a c = search needs
@@ -33,11 +41,15 @@ loop-less c = search needs
 
 loop-again : tie.Need-loop-again Inv-loop μ-loop
 loop-again c =
-    let l = c .before .before .loop in
-    (search needs, fill-more maxMutexes (heirAt (c .before .before .before .args .m)) noId (l .a) (l .i) _ (omega arith) (l .inv .1) (c .heir-of .ensures))
+    let a = c .before .before .before .before .before .args in
+    let l = c .before .before .before .before .loop in
+    (search needs, fill-more maxMutexes (heirAt (a .t1)) noId (l .a) (l .i) _ (omega arith) (l .inv .1) (c .heir .ensures ∙ ap (heirBy (getD ((a .t1) .kind) (l .i) 0)) (read-any ((a .t1) .owner) (l .i) 0 noId (search needs))))
 
 returns : tie.Need-returns Inv-loop μ-loop
-returns c = let l = c .before .loop in fill-done maxMutexes (heirAt (c .before .before .args .m)) noId (l .a) (l .i) (omega arith) (l .inv .1)
+returns c =
+    let a = c .before .before .args in
+    let l = c .before .loop in
+    fill-done maxMutexes (heirAt (a .t1)) noId (l .a) (l .i) (omega arith) (l .inv .1)
 
 pub heirs-of-spec : {M : Type 1} → statement M
 heirs-of-spec =
@@ -46,7 +58,9 @@ heirs-of-spec =
     Inv-loop
     μ-loop
     loop-holds
-    heir-of-requires
+    element-copy-out-heir
+    element-copy-out-heir-2
+    heir-requires
     array-write-a
     add-i
     loop-less

@@ -1,32 +1,40 @@
 -- `leads::leads_of` meets its contract. The loop: the places passed hold whom their tasks lead to.
 use borrow.Author.Needs.{needs}
-use mathlib.Core.Path.{_≡_}
+use mathlib.Core.Path.{_≡_, _∙_}
 use Prim.Native.Nat.{_-_, _≤_}
 use native.Mathlib.Omega.{arith}
 use Rattle.lists.specs.FillLaws.{fill-done, fill-more, fill-none, soFar}
 use Rattle.rules.specs.Sizes.{taskPlaces}
+use lib.ListN.{length, getD}
 use Rattle.task_lists.specs.TaskList.{noId}
-use Rattle.record.specs.Reads.{leadsAt}
+use Rattle.record.specs.Reads.{ledBy}
+use Rattle.leads.proofs.Laws.{led-same}
 use Rattle.leads.proofs.leads_of.Statement.{statement}
 use Rattle.leads.proofs.leads_of.Tie as tie
 
 abbrev Inv-loop : tie.InvT-loop
-Inv-loop mutexes t a₀ i₀ a i = (i ≤ taskPlaces) × (a ≡ soFar taskPlaces (leadsAt t mutexes) noId i)
+Inv-loop wait object mutexes a₀ i₀ a i = (i ≤ taskPlaces) × (a ≡ soFar taskPlaces (λ j. ledBy mutexes (getD wait j 0) (getD object j 0)) noId i)
 
 abbrev μ-loop : tie.MeasureT-loop
-μ-loop mutexes t a₀ i₀ a i = taskPlaces - i
+μ-loop wait object mutexes a₀ i₀ a i = taskPlaces - i
 
 loop-holds : tie.Need-loop-holds Inv-loop μ-loop
-loop-holds c = let a = c .args in (search needs, fill-none taskPlaces (leadsAt (a .t1) (a .mutexes)) noId)
+loop-holds c = let a = c .args in (search needs, fill-none taskPlaces (λ j. ledBy (a .t3) (getD (a .wait .now) j 0) (getD (a .object .now) j 0)) noId)
 
-element-copy-out-led-by : tie.Need-element-copy-out-led-by Inv-loop μ-loop
-element-copy-out-led-by c = search needs
+element-copy-out-at : tie.Need-element-copy-out-at Inv-loop μ-loop
+element-copy-out-at c = search needs
 
-element-copy-out-led-by-2 : tie.Need-element-copy-out-led-by-2 Inv-loop μ-loop
-element-copy-out-led-by-2 c = search needs
+element-copy-out-led-to : tie.Need-element-copy-out-led-to Inv-loop μ-loop
+element-copy-out-led-to c = search needs
 
-led-by-requires : tie.Need-led-by-requires Inv-loop μ-loop
-led-by-requires c κs = search needs
+cast-led-to : tie.Need-cast-led-to Inv-loop μ-loop
+cast-led-to c = search needs
+
+array-read-led-to : tie.Need-array-read-led-to Inv-loop μ-loop
+array-read-led-to c = search needs
+
+led-to-requires : tie.Need-led-to-requires Inv-loop μ-loop
+led-to-requires c κs = search needs
 
 array-write-a : tie.Need-array-write-a Inv-loop μ-loop
 array-write-a c = search needs
@@ -41,10 +49,13 @@ loop-again : tie.Need-loop-again Inv-loop μ-loop
 loop-again c =
     let a = c .before .before .before .before .before .args in
     let l = c .before .before .before .before .loop in
-    (search needs, fill-more taskPlaces (leadsAt (a .t1) (a .mutexes)) noId (l .a) (l .i) _ (omega arith) (l .inv .1) (c .led-by .ensures))
+    (search needs, fill-more taskPlaces (λ j. ledBy (a .t3) (getD (a .wait .now) j 0) (getD (a .object .now) j 0)) noId (l .a) (l .i) _ (omega arith) (l .inv .1) (c .led-to .ensures ∙ led-same (a .t3) (getD (a .wait .now) (l .i) 0) (getD (a .object .now) (l .i) 0) (search needs)))
 
 returns : tie.Need-returns Inv-loop μ-loop
-returns c = let a = c .before .before .args in let l = c .before .loop in fill-done taskPlaces (leadsAt (a .t1) (a .mutexes)) noId (l .a) (l .i) (omega arith) (l .inv .1)
+returns c =
+    let a = c .before .before .args in
+    let l = c .before .loop in
+    fill-done taskPlaces (λ j. ledBy (a .t3) (getD (a .wait .now) j 0) (getD (a .object .now) j 0)) noId (l .a) (l .i) (omega arith) (l .inv .1)
 
 pub leads-of-spec : {M : Type 1} → statement M
 leads-of-spec =
@@ -53,9 +64,11 @@ leads-of-spec =
     Inv-loop
     μ-loop
     loop-holds
-    element-copy-out-led-by
-    element-copy-out-led-by-2
-    led-by-requires
+    element-copy-out-at
+    element-copy-out-led-to
+    cast-led-to
+    array-read-led-to
+    led-to-requires
     array-write-a
     add-i
     loop-less

@@ -15,7 +15,7 @@ levels-of-requires c κs = search needs
 
 returns : tie.Need-returns
 unfolding newLevels
-returns c = simp (c .levels-of .ensures, c .before .before .before .leads-of .ensures, c .before .before .before .before .heirs-of .ensures)
+returns c = simp (c .levels-of .ensures, c .before .before .before .leads-of .ensures, c .before .before .before .before .before .before .heirs-of .ensures)
 
 pub new-levels-spec : {M : Type 1} → statement M
 new-levels-spec = tie.close (tie.spec heirs-of-requires leads-of-requires levels-of-requires returns)

@@ -15,8 +15,8 @@ returns : tie.Need-returns
 unfolding lockWaits mayWait
 returns c = simp (c .answer .ensures, ← c .before .before .of-wait .ensures, ne-eqb _ _ (c .before .if1 .taken))
 
-next-of-requires : tie.Need-next-of-requires
-next-of-requires c κs = search needs
+leads-of-requires : tie.Need-leads-of-requires
+leads-of-requires c κs = search needs
 
 owner-at-requires : tie.Need-owner-at-requires
 owner-at-requires c κs = search needs
@@ -32,7 +32,7 @@ answer-requires-2 c κs = search needs
 
 returns-2 : tie.Need-returns-2
 unfolding lockWaits mayWait
-returns-2 c = simp (c .answer2 .ensures, ← c .before .before .before .follow .ensures .0, ← c .before .before .before .follow .ensures .1, ← c .before .before .before .before .owner-at .ensures, ← c .before .before .before .before .before .before .next-of .ensures, c .before .before .if2 .taken, ← c .before .before .before .before .before .before .before .before .before .before .of-wait .ensures, eq-eqb _ _ (c .before .before .before .before .before .before .before .before .before .if1 .left))
+returns-2 c = simp (c .answer2 .ensures, ← c .before .before .before .follow .ensures .0, ← c .before .before .before .follow .ensures .1, ← c .before .before .before .before .owner-at .ensures, ← c .before .before .before .before .before .before .leads-of .ensures, c .before .before .if2 .taken, ← c .before .before .before .before .before .before .before .before .before .before .before .before .before .before .before .of-wait .ensures, eq-eqb _ _ (c .before .before .before .before .before .before .before .before .before .before .before .before .before .before .if1 .left))
 
 block-requires : tie.Need-block-requires
 block-requires c κs = search needs
@@ -51,7 +51,7 @@ answer-requires-3 c κs = search needs
 
 returns-3 : tie.Need-returns-3
 unfolding lockWaits mayWait
-returns-3 c = simp (c .answer3 .ensures, c .before .before .dispatch .ensures, c .before .before .before .settle .ensures, c .before .before .before .before .block .ensures, ← c .before .before .before .before .before .before .follow .ensures .0, ← c .before .before .before .before .before .before .follow .ensures .1, ← c .before .before .before .before .before .before .before .owner-at .ensures, ← c .before .before .before .before .before .before .before .before .before .next-of .ensures, c .before .before .before .before .before .if2 .left, ← c .before .before .before .before .before .before .before .before .before .before .before .before .before .of-wait .ensures, eq-eqb _ _ (c .before .before .before .before .before .before .before .before .before .before .before .before .if1 .left))
+returns-3 c = simp (c .answer3 .ensures, c .before .before .dispatch .ensures, c .before .before .before .settle .ensures, c .before .before .before .before .block .ensures, ← c .before .before .before .before .before .before .follow .ensures .0, ← c .before .before .before .before .before .before .follow .ensures .1, ← c .before .before .before .before .before .before .before .owner-at .ensures, ← c .before .before .before .before .before .before .before .before .before .leads-of .ensures, c .before .before .before .before .before .if2 .left, ← c .before .before .before .before .before .before .before .before .before .before .before .before .before .before .before .before .before .before .of-wait .ensures, eq-eqb _ _ (c .before .before .before .before .before .before .before .before .before .before .before .before .before .before .before .before .before .if1 .left))
 
 pub lock-waits-spec : {M : Type 1} → statement M
 lock-waits-spec =
@@ -60,7 +60,7 @@ lock-waits-spec =
     of-wait-requires
     answer-requires
     returns
-    next-of-requires
+    leads-of-requires
     owner-at-requires
     follow-requires
     cast-answer

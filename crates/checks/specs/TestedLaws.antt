@@ -1,0 +1,65 @@
+-- Tests by flags and by tables made beforehand are the tests by counts and columns.
+use mathlib.Core.Path.{_≡_, refl, ap}
+use mathlib.Core.Logic.{inl, inr}
+use mathlib.Core.List.{List}
+use mathlib.Core.Bool.{Bool, true, false, cond, not}
+use Prim.Native.Nat.{ℕ, _%_, _<_}
+use native.Mathlib.Omega.{arith}
+use native.Mathlib.Decide.{decLt}
+use lib.Dec.{ltb, eqb}
+use lib.ListN.{length, getD, List·getD-eq-default}
+use borrow.Author.Tests.{lt-ltb, le-ltb}
+use Rattle.lists.specs.Test.{_and_, _or_, allb}
+use Rattle.lists.specs.Table.{filled}
+use Rattle.lists.specs.TestLaws.{which, all-same}
+use Rattle.lists.specs.TableLaws.{read-any, getD-filled}
+use Rattle.rules.specs.Sizes.{taskPlaces, maxMutexes, maxSemaphores, onMutex, onSemaphore}
+use Rattle.task_lists.specs.TaskList.{noId, usedPlaces, idFits, idFitsAt, idFitsBy}
+use Rattle.task_lists.specs.TaskListLaws.{used-flag}
+use Rattle.record.specs.Reads.{ledBy}
+use Rattle.checks.specs.Checks.{unusedAt, unusedBy, blockedBy, blockedAt, blockedFits, blockedFitsAt, emptyAt, atObject}
+
+pub unused-same : (column : List ℕ) (n : ℕ) → allb taskPlaces (unusedBy column (usedPlaces n)) ≡ allb taskPlaces (unusedAt column n)
+unused-same column n = all-same _ _ _ _ refl (λ i h. ap (λ (b : Bool). b or eqb (getD column i 0) 0) (used-flag n i h))
+
+pub ids-same : (ids : List ℕ) (n tasks : ℕ) → allb taskPlaces (idFitsBy ids (usedPlaces n) tasks) ≡ allb taskPlaces (idFitsAt ids n tasks)
+ids-same ids n tasks = all-same _ _ _ _ refl (λ i h. ap (λ (b : Bool). idFits b tasks (getD ids i 0)) (used-flag n i h))
+
+-- a mutex that has an owner, read at its place
+owned : (object : ℕ) (owners : List ℕ) → length owners ≡ maxMutexes
+    → not (eqb (getD owners object noId) noId) ≡ ltb object maxMutexes and not (eqb (getD owners (object % maxMutexes) 0) noId)
+unfolding _and_
+owned object owners g = elim (decLt object maxMutexes) [
+  | yes h ↦ (let q : object % maxMutexes ≡ object = omega arith in
+      rw (lt-ltb object maxMutexes h, q, read-any owners object 0 noId (omega (arith, g))) refl)
+  | no h ↦ rw (le-ltb object maxMutexes (omega arith), List·getD-eq-default owners noId {n = object} (omega (arith, g))) refl
+]
+
+-- what is awaited isn't available: one task, by the tables
+blocked-task : (kind object n : ℕ) (owners counts : List ℕ) → length owners ≡ maxMutexes
+    → blockedFits kind object n (ledBy owners kind object) (emptyAt counts (object % maxSemaphores))
+    ≡ blockedBy kind object n (getD owners (object % maxMutexes) 0) (getD counts (object % maxSemaphores) 0)
+unfolding blockedFits blockedBy ledBy
+blocked-task kind object n owners counts g = elim (which (eqb kind onMutex)) [
+  | inl e ↦ rw e (owned object owners g)
+  | inr e ↦ rw e (elim (which (eqb kind onSemaphore)) [
+    | inl u ↦ rw u (empty (eqb (getD counts (object % maxSemaphores) 0) 0))
+    | inr u ↦ rw u refl
+  ])
+]
+  where
+    empty : (b : Bool) → ltb object n and eqb (cond b 1 0) 1 ≡ ltb object n and b
+    empty true = refl
+    empty false = refl
+
+pub blocked-tables : (waits objects owners counts : List ℕ) (n : ℕ) → length owners ≡ maxMutexes
+    → allb taskPlaces (blockedFitsAt waits objects (filled taskPlaces (λ i. ledBy owners (getD waits i 0) (getD objects i 0)))
+    (filled taskPlaces (atObject objects (filled maxSemaphores (emptyAt counts)))) n)
+    ≡ allb taskPlaces (blockedAt waits objects owners counts n)
+blocked-tables waits objects owners counts n g = all-same _ _ _ _ refl (λ i h.
+    rw (
+      getD-filled taskPlaces (λ j. ledBy owners (getD waits j 0) (getD objects j 0)) 0 i h,
+      getD-filled taskPlaces (atObject objects (filled maxSemaphores (emptyAt counts))) 0 i h,
+      getD-filled maxSemaphores (emptyAt counts) 0 (getD objects i 0 % maxSemaphores) (omega arith),
+    )
+    (blocked-task (getD waits i 0) (getD objects i 0) n owners counts g))

@@ -1,0 +1,16 @@
+-- `leads::led_to` meets its contract. Assumes nothing.
+use borrow.Author.Tests.{lt-ltb, le-ltb, eq-eqb, ne-eqb}
+use Rattle.leads.proofs.led_to.Statement.{statement}
+use Rattle.leads.proofs.led_to.Tie as tie
+
+returns : tie.Need-returns
+returns c = rw (ne-eqb _ _ (c .if1 .taken))
+
+returns-2 : tie.Need-returns-2
+returns-2 c = rw (eq-eqb _ _ (c .before .if1 .left), le-ltb _ _ (c .if2 .taken))
+
+returns-3 : tie.Need-returns-3
+returns-3 c = rw (eq-eqb _ _ (c .before .if1 .left), lt-ltb _ _ (c .if2 .left))
+
+pub led-to-spec : {M : Type 1} → statement M
+led-to-spec = tie.close (tie.spec returns returns-2 returns-3)

@@ -1,0 +1,55 @@
+-- `sound::waits_in` meets its contract. Assumes nothing.
+use borrow.Author.Needs.{needs}
+use mathlib.Core.Path.{_≡_, refl, _∙_}
+use Rattle.lists.specs.Test.{_and_, allb}
+use Rattle.rules.specs.Sizes.{taskPlaces}
+use Rattle.lists.specs.LoopLaws.{test-passed, test-failed}
+use Rattle.checks.specs.Checks.{blockedAt, blockedIn, ringless, waitsIn}
+use Rattle.checks.specs.TestedLaws.{blocked-tables}
+use Rattle.sound.proofs.waits_in.Statement.{statement}
+use Rattle.sound.proofs.waits_in.Tie as tie
+
+leads-of-requires : tie.Need-leads-of-requires
+leads-of-requires c κs = search needs
+
+empties-requires : tie.Need-empties-requires
+empties-requires c κs = search needs
+
+at-objects-requires : tie.Need-at-objects-requires
+at-objects-requires c κs = search needs
+
+blocked-requires : tie.Need-blocked-requires
+blocked-requires c κs = search needs
+
+returns : tie.Need-returns
+unfolding waitsIn blockedIn ringless _and_
+returns c =
+    let a = c .before .before .before .before .before .before .before .before .args in
+    let e : c .before .blocked .result ≡ allb taskPlaces (blockedAt (a .wait .now) (a .object .now) (a .m .owner) (a .c .count) (a .c .n)) =
+    c .before .blocked .ensures ∙ rw (c .before .before .before .before .before .before .leads-of .ensures, c .before .before .before .before .at-objects .ensures, c .before .before .before .before .before .empties .ensures)
+    (blocked-tables (a .wait .now) (a .object .now) (a .m .owner) (a .c .count) (a .c .n) (search needs)) in
+    rw (test-failed e (c .if1 .taken))
+
+owners-end-requires : tie.Need-owners-end-requires
+owners-end-requires c κs = search needs
+
+returns-2 : tie.Need-returns-2
+unfolding waitsIn blockedIn ringless _and_
+returns-2 c =
+    let a = c .before .before .before .before .before .before .before .before .before .before .before .args in
+    let e : c .before .before .before .before .blocked .result ≡ allb taskPlaces (blockedAt (a .wait .now) (a .object .now) (a .m .owner) (a .c .count) (a .c .n)) =
+    c .before .before .before .before .blocked .ensures ∙ rw (c .before .before .before .before .before .before .before .before .before .leads-of .ensures, c .before .before .before .before .before .before .before .at-objects .ensures, c .before .before .before .before .before .before .before .before .empties .ensures)
+    (blocked-tables (a .wait .now) (a .object .now) (a .m .owner) (a .c .count) (a .c .n) (search needs)) in
+    rw (test-passed e (c .before .before .before .if1 .left)) (c .owners-end .ensures ∙ rw (c .before .before .before .before .before .before .before .before .before .leads-of .ensures) refl)
+
+pub waits-in-spec : {M : Type 1} → statement M
+waits-in-spec =
+    tie.close
+    (tie.spec
+    leads-of-requires
+    empties-requires
+    at-objects-requires
+    blocked-requires
+    returns
+    owners-end-requires
+    returns-2)

@@ -1,0 +1,13 @@
+-- `sound_objects::empty_flag` meets its contract. Assumes nothing.
+use borrow.Author.Tests.{eq-eqb, ne-eqb}
+use Rattle.sound_objects.proofs.empty_flag.Statement.{statement}
+use Rattle.sound_objects.proofs.empty_flag.Tie as tie
+
+returns : tie.Need-returns
+returns c = rw (eq-eqb _ _ (c .if1 .taken))
+
+returns-2 : tie.Need-returns-2
+returns-2 c = rw (ne-eqb _ _ (c .if1 .left))
+
+pub empty-flag-spec : {M : Type 1} → statement M
+empty-flag-spec = tie.close (tie.spec returns returns-2)
