@@ -1,7 +1,6 @@
 // Bytes that arrive in any pieces, cut into lines. A line that lies wholly in one arrival is a part of it, with no
 // copy; the bytes of a line that is split over arrivals are kept in a lent carry, whose length is the longest line.
 use text::cut;
-use text::lines;
 use text::place;
 use text::place::Put;
 ghost use mathlib.Core.Path.{_≡_};
@@ -65,7 +64,7 @@ pub fn feed(carry: &mut [u8], held: usize, bytes: &[u8], at: usize) -> Fed
     ensures answer { λ r. ⌜ r ≡ fed (now (carry .entry)) held (now (bytes .entry)) at ⌝ }
     ensures memory { λ r. ⌜ now (carry .exit) ≡ carryAfter (now (carry .entry)) held (now (bytes .entry)) at ⌝ }
 {
-    let part = lines::line(bytes, at);
+    let part = reader::line_at(bytes, at);
     let end = at + part.len();
     if end < bytes.len() {
         let found = close(carry, held, part, at, end);

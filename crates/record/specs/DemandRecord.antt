@@ -1,7 +1,7 @@
 -- Demand 3 as a statement over the state record and over `stepOf`, the definition that `step`'s contract cites. DemandRecordLaws proves it.
 use mathlib.Core.Path.{_≡_}
 use mathlib.Core.List.{List, [], _∷_}
-use mathlib.Core.Bool.{true, cond}
+use mathlib.Core.Bool.{Bool, true, cond}
 use mathlib.Core.Option.{Option, none, some}
 use Prim.Native.Nat.{ℕ}
 use lib.Dec.{leb}
@@ -48,9 +48,12 @@ requestFor (outcome i) = Outcome i
 unfoldable pub readOut : Out → Ruled
 readOut o = record { state = view (o .state); number = numberOf (o .answer); value = valueOf (o .answer); run = taskAt (runOf (o .answer)) }
 
--- "The task to run is then the running one as it stands; where the state handed in isn't sound, it is none"
+-- "The task to run is then the running one as it stands; where the state handed in isn't sound, it is none": by what the test says of it
+abbrev pub standingBy : Bool → State → Option ℕ
+standingBy sound k = cond sound (taskAt (k .running)) none
+
 unfoldable pub standingIn : State → Option ℕ
-standingIn k = cond (soundOf k) (taskAt (k .running)) none
+standingIn k = standingBy (soundOf k) k
 
 -- "if the line that would report the answer, accepted or not, its LF included, is longer than the lent memory, the answer is 8, value 0,
 -- and the step isn't made": k is the record handed in, o what the step gives

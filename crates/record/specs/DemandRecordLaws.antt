@@ -8,7 +8,7 @@ use Prim.Native.Nat.{ℕ, _≤_, _<_}
 use native.Mathlib.Omega.{arith}
 use lib.Dec.{leb}
 use lib.ListN.{length}
-use Rattle.lists.specs.TestLaws.{by-test, and-l}
+use Rattle.lists.specs.TestLaws.{which, by-test, and-l}
 use Rattle.rules.specs.Tables.{mutexOf}
 use Rattle.rules.specs.Levels.{linksOf}
 use Rattle.rules.specs.Step.{Step, task, mutex, sem, start, lock, unlock, pend, post, flush, sleep, yield, hold, free, tick, level, outcome}
@@ -29,7 +29,7 @@ use Rattle.record.specs.StepRecord.{stepFor, numberOf, valueOf, runOf, a
 use Rattle.record.specs.GoodRecord.{Typed}
 use Rattle.record.specs.TidyLaws.{running-id}
 use Rattle.record.specs.PackLaws.{id-back}
-use Rattle.record.specs.SoundPackLaws.{view-pack, pack-sound, sound-view, sound-pack}
+use Rattle.record.specs.SoundPackLaws.{view-pack, pack-sound, pack-typed, sound-view, sound-pack}
 use Rattle.record.specs.ColumnLaws.{chosen}
 use Rattle.record.specs.DemandRecord.{freshRecord, requestFor, readOut, standingIn, inMemory, callRecord, eventsRecord, afterRecord, answerRecord, Demand-3-record-from, Demand-3-record}
 use Rattle.record.specs.declared.State.{State}  -- keep
@@ -212,6 +212,20 @@ demand-3-record = demand-3-pack fresh fresh-inv
 pub step-sound : (k : State) (x : Request) → soundOf k ≡ true → soundOf ((stepOf k x) .state) ≡ true
 unfolding stepOf outFor
 step-sound k x sound = rw sound (pack-sound ((stepSound (view k) (stepFor x)) .state) (step-inv (view k) (sound-view k sound) (stepFor x)))
+
+-- a step answers an unsound record 15 and leaves it, so no step makes one sound
+pub step-verdict : (k : State) (x : Request) → soundOf ((stepOf k x) .state) ≡ soundOf k
+unfolding stepOf stays
+step-verdict k x = elim (which (soundOf k)) [
+  | inl e ↦ step-sound k x e ∙ sym e
+  | inr e ↦ rw e e
+]
+
+-- and hands on a record with the lengths and the numbers of its type
+pub step-typed : (k : State) (x : Request) → Typed k → Typed ((stepOf k x) .state)
+unfolding stepOf outFor stays
+step-typed k x T = by-test (λ (o : Out). Typed (o .state)) (soundOf k)
+    (λ e. pack-typed ((stepSound (view k) (stepFor x)) .state) (step-inv (view k) (sound-view k e) (stepFor x))) (λ e. T)
 
 -- "Every number but 0 and 1 leaves the state unchanged.": the record too, whether it is sound or not
 pub refused-stays : (k : State) (x : Request) → Typed k → 1 < numberOf ((stepOf k x) .answer) → (stepOf k x) .state ≡ k

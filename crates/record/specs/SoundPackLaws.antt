@@ -15,7 +15,7 @@ use Rattle.lists.specs.Count.{occ, below, opt}
 use Rattle.lists.specs.Table.{pad, filled}
 use Rattle.lists.specs.TestLaws.{which, by-test, and-l, and-r, true-and, or-l, or-r, true-all, none-some, some-same}
 use Rattle.lists.specs.CountLaws.{occ-opt, in-below, below-le, pigeonhole}
-use Rattle.lists.specs.TableLaws.{filled-is, take-pad, length-pad, read-any}
+use Rattle.lists.specs.TableLaws.{length-filled, filled-is, take-pad, length-pad, read-any}
 use Rattle.chains.specs.Chain.{on}
 use Rattle.rules.specs.Sizes.{taskPlaces, maxMutexes, maxSemaphores, kinds, wordSize, onMutex, onSemaphore, onTime}
 use Rattle.rules.specs.Levels.{levelIn}
@@ -245,6 +245,51 @@ module _ (s : Model) (I : Inv s) where
   pub pack-sound : soundOf (pack s) ≡ true
   unfolding soundOf
   pack-sound = true-and _ _ pack-tidy (true-and _ _ pack-levels (ap soundb (view-pack s I) ∙ inv-sound s I))
+
+-- due times fit into a word
+left-small : (clock : ℕ) (o : Option ℕ) → leftCode clock o < wordSize
+unfolding leftCode
+left-small clock none = omega arith
+left-small clock (some n) = omega arith
+
+due-small : (clock : ℕ) (w : Option Wait) → dueCode clock w < wordSize
+unfolding dueCode
+due-small clock none = omega arith
+due-small clock (some w) = left-small clock (w .left)
+
+-- the packing of a sound state has the lengths and the numbers of the record's type
+module _ (s : Model) (I : Inv s) where
+  task-column : (l : List ℕ) → length l ≡ taskCount (s .tables) → length (pad taskPlaces 0 l) ≡ taskPlaces
+  task-column l e = length-pad taskPlaces 0 l (omega (arith, I .facts .few-tasks))
+
+  wait-codes : (f : Option Wait → ℕ) → length (pad taskPlaces 0 (map f (s .tables .tasks .waits))) ≡ taskPlaces
+  wait-codes f = task-column (map f (s .tables .tasks .waits)) (length-map (s .tables .tasks .waits) f ∙ I .facts .wait-column)
+
+  due-in : (i : ℕ) → getD ((packTasks (s .tables) (s .clock)) .due) i 0 < wordSize
+  due-in i = rw (due-read (s .tables) (s .clock) i) (due-small (s .clock) (waitOf (s .tables) i))
+
+  pub pack-typed : Typed (pack s)
+  unfolding pack packTasks packMutexes packSemaphores taskListOf
+  pack-typed =
+      let t = s .tables in
+      record {
+        due-length = wait-codes (dueCode (s .clock));
+        priority-length = task-column (t .tasks .priorities) refl;
+        level-length = task-column (filled (taskCount t) (levelIn t)) (length-filled (taskCount t) (levelIn t));
+        outcome-length = task-column (t .tasks .outcomes) (I .facts .outcome-column);
+        wait-length = wait-codes kindCode;
+        object-length = wait-codes objectCode;
+        timed-length = wait-codes timedCode;
+        kind-length = length-pad maxMutexes 0 (t .mutexes .kinds) (omega (arith, I .facts .kind-column, I .facts .few-mutexes));
+        owner-length = length-pad maxMutexes noId (map idOf (t .mutexes .owners)) (omega (arith, length-map (t .mutexes .owners) idOf, I .facts .few-mutexes));
+        count-length = length-pad maxSemaphores 0 (t .semaphores .counts) (I .facts .few-semaphores);
+        maximum-length = length-pad maxSemaphores 0 (t .semaphores .maxima) (omega (arith, I .facts .maximum-column, I .facts .few-semaphores));
+        ready-length = length-pad places noId (s .ready) (ready-fits s I);
+        waiting-length = length-pad places noId (t .tasks .waiting) (waiting-fits s I);
+        due-word = due-in;
+        clock-word = I .clock-in;
+        hold-byte = omega (arith, I .hold-in);
+      }
 
 -- a sound record is the packing of a sound state, that which it stands for
 module _ (k : State) (sound : soundOf k ≡ true) where

@@ -4,6 +4,7 @@ pub mod Session
 pub mod Pieces
 pub mod ToCome
 pub mod WholeLogLaws
+pub mod LineLaws
 pub mod SessionLaws
 pub mod RoomLaws
 pub mod ToComeLaws

@@ -22,11 +22,10 @@ use Rattle.log_lines.specs.LogLine.{logBytes, badBytes}
 use Rattle.words.specs.Form.{headerBytes}
 use Rattle.script_lines.specs.LineRun.{awaiting, running, headLog}
 use Rattle.log_lines.specs.LogLineLaws.{line-room}
-use Rattle.script.specs.Session.{lineLog, lineTaken, takenMemory, lineIn, foundTaken, foundMemory, turned, Stand, fedAt, carryAt, lineAt, freeOf, turnAt, standAt}
-use Rattle.script.specs.SessionLaws.{found-short}
+use Rattle.script.specs.Session.{lineLog, Taken, lineTaken, takenMemory, lineIn, foundTaken, foundMemory, turned, Stand, fedAt, carryAt, lineAt, freeOf, turnAt, standAt}
+use Rattle.script.specs.LineLaws.{found-short}
 use Rattle.log_lines.specs.LogLine.{lineRoom}
 use Rattle.script.specs.ToCome.{arrivalsLog, arrivalsState, arrivalsStage}
-use Rattle.script.specs.declared.session.Taken.{Taken}
 
 log-length : length logBytes ≤ lineRoom
 unfolding logBytes ascii

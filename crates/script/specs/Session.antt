@@ -1,28 +1,36 @@
 -- A script whose bytes arrive in pieces: what each piece comes to, and what stands in the lent memory then.
 use Prim.Native.Nat.{ℕ, zero, suc, _+_}
 use mathlib.Core.List.{List, [], _∷_, _++_}
-use mathlib.Core.Bool.{cond}
+use mathlib.Core.Bool.{Bool, true, false, cond}
+use mathlib.Core.Option.{Option, none}
 use lib.Dec.{eqb, ltb}
 use lib.ListN.{length, take, drop}
 use Rattle.text.specs.Place.{room, putBytes}
 use Rattle.arrive.specs.Arrive.{Arrival, Line, Long}
 use Rattle.arrive.specs.Feed.{fed, carryAfter, lastFound, arrivalsOf}
 use Rattle.arrive.specs.declared.Fed.{Fed}
+use Rattle.arrive.specs.declared.Found.{Found}
+use Rattle.arrive.specs.declared.Found.the-variants as found
 use Rattle.record.specs.DemandRecord.{freshRecord}
 use Rattle.record.specs.declared.State.{State}
+use Rattle.record.specs.declared.Answer.{Answer}
+use Rattle.rules.specs.Step.{Step}
 use Rattle.words.specs.Form.{stepOn}
 use Rattle.script_lines.specs.LineRun.{awaiting, running, lineAnswered, lineFor, headLog, headStage}
 use Rattle.script.specs.declared.session.Session.{Session}
 use Rattle.script.specs.declared.session.Moved.{Moved}
-use Rattle.script.specs.declared.session.Taken.{Taken}
+use Rattle.script.specs.declared.session.Logged.{Logged}
 
 -- a fresh record, the first line awaited, nothing held
 unfoldable pub freshSession : Session
 freshSession = record { state = freshRecord; stage = awaiting; held = 0 }
 
 -- a line's log line, and the record and the stage after it: the first line, a step, or a line after a bad first line, which is passed over
+abbrev pub logAt : ℕ → Answer → List ℕ → List ℕ
+logAt stage a line = cond (eqb stage running) (lineFor a) (cond (eqb stage awaiting) (headLog line) [])
+
 unfoldable pub lineLog : State → ℕ → List ℕ → List ℕ
-lineLog k stage line = cond (eqb stage running) (lineFor ((lineAnswered k (stepOn line)) .answer)) (cond (eqb stage awaiting) (headLog line) [])
+lineLog k stage line = logAt stage ((lineAnswered k (stepOn line)) .answer) line
 
 unfoldable pub lineState : State → ℕ → List ℕ → State
 lineState k stage line = cond (eqb stage running) ((lineAnswered k (stepOn line)) .state) k
@@ -30,9 +38,12 @@ lineState k stage line = cond (eqb stage running) ((lineAnswered k (stepOn line)
 unfoldable pub lineStage : ℕ → List ℕ → ℕ
 lineStage stage line = cond (eqb stage running) stage (cond (eqb stage awaiting) (headStage line) stage)
 
--- the log's 8 where nothing was written: no log line is empty
-unfoldable pub roomNumber : ℕ → ℕ
-roomNumber written = cond (eqb written 0) 8 0
+-- what one line came to: the record, where the script stands, how many bytes of log were written, and 0, or 8 where there was no room for them
+pub record Taken : Type 0 where
+  pub state : State
+  pub stage : ℕ
+  pub written : ℕ
+  pub number : ℕ
 
 -- one line with lent memory: taken where its log line has room; else nothing is done, and the number is the log's 8
 unfoldable pub lineTaken : State → ℕ → List ℕ → List ℕ → Taken
@@ -45,12 +56,34 @@ lineTaken k stage line memory =
 unfoldable pub takenMemory : State → ℕ → List ℕ → List ℕ → List ℕ
 takenMemory k stage line memory = putBytes memory 0 (lineLog k stage line)
 
+-- the same in the order in which the code goes: which step a line is (before a good first line, and after a bad one, no line is a step), and then,
+-- with what that is answered, its log line in lent memory
+unfoldable pub stepAt : ℕ → List ℕ → Option Step
+stepAt stage line = cond (eqb stage running) (stepOn line) none
+
+unfoldable pub loggedAt : ℕ → Answer → List ℕ → List ℕ → Logged
+loggedAt stage a line memory =
+    cond (room memory 0 (logAt stage a line))
+    (record { stage = lineStage stage line; written = length (logAt stage a line); number = 0 })
+    (record { stage = stage; written = 0; number = 8 })
+
+-- the log's 8 where nothing was written: no log line is empty
+unfoldable pub roomNumber : ℕ → ℕ
+roomNumber written = cond (eqb written 0) 8 0
+
 -- an over-long line is neither a step nor the first line, as an empty one is none
 unfoldable pub lineIn : Arrival → List ℕ
 lineIn (Line l) = l
 lineIn Long = []
 
--- where a line's end was found, its line, and else nothing
+-- whether a line's end was found
+unfoldable pub lineb : Found → Bool
+lineb (found.Part start end) = true
+lineb (found.Carried n) = true
+lineb found.Long = true
+lineb found.Nothing = false
+
+-- where one was, its line, and else nothing
 unfoldable pub foundTaken : State → ℕ → List Arrival → List ℕ → Taken
 foundTaken k stage [] memory = record { state = k; stage = stage; written = 0; number = 0 }
 foundTaken k stage (e ∷ es) memory = lineTaken k stage (lineIn e) memory
@@ -130,6 +163,9 @@ standFor s carry memory = record { session = s; carry = carry; memory = memory; 
 unfoldable pub pieceRun : Session → List ℕ → List ℕ → List ℕ → Through
 pieceRun s carry bytes memory = through (length bytes) bytes (standFor s carry memory)
 
+abbrev pub movedWith : State → ℕ → ℕ → ℕ → ℕ → ℕ → Moved
+movedWith k stage held next written number = record { session = record { state = k; stage = stage; held = held }; next = next; written = written; number = number }
+
 abbrev pub movedTo : Through → Moved
 movedTo t = record { session = t .stand .session; next = t .stand .next; written = t .stand .written; number = t .number }
 
@@ -140,6 +176,10 @@ lastArrivals stage (e ∷ es) = e ∷ es
 
 unfoldable pub leftArrivals : ℕ → List ℕ → ℕ → List Arrival
 leftArrivals stage carry held = lastArrivals stage (arrivalsOf carry [] (lastFound carry held))
+
+-- whether any is left
+unfoldable pub leftb : ℕ → ℕ → Bool
+leftb stage held = cond (eqb held 0) (eqb stage awaiting) true
 
 -- the end: where the last line's log line has no room, the session is as handed in
 unfoldable pub endRun : Session → List ℕ → List ℕ → Moved

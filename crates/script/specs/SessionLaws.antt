@@ -1,143 +1,32 @@
--- Laws of a piece of a script, line by line: one line, one turn, and the end.
+-- Laws of a piece of a script, line by line: one turn of the loop, and the end.
 use mathlib.Core.Path.{_≡_, refl, ap, sym, _∙_}
-use mathlib.Core.List.{List, [], _∷_, _++_, append-nil}
-use mathlib.Core.Bool.{Bool, true, false, cond}
+use mathlib.Core.List.{List, [], _++_, append-nil}
+use mathlib.Core.Bool.{true, false, cond}
 use mathlib.Core.Logic.{inl, inr}
 use Prim.Native.Nat.{ℕ, zero, suc, _+_, _-_, _≤_, _<_}
 use native.Mathlib.Omega.{arith}
 use lib.Dec.{eqb, leb, ltb}
-use lib.ListN.{length, take, drop, take-append-drop, length-append, length-drop, drop-of-length-le}
+use lib.ListN.{length, take, drop, take-append-drop, length-drop, drop-of-length-le}
 use lib.Seq.{take-all}
-use borrow.Author.Tests.{eq-eqb, ne-eqb, eqb-true, lt-ltb, le-ltb, le-leb, ltb-true, leb-true}
+use borrow.Author.Tests.{eq-eqb, ne-eqb, lt-ltb, le-ltb, ltb-true, ltb-false}
 use Rattle.lists.specs.TestLaws.{which, clash, by-test}
-use Rattle.decimal.specs.Decimal.{decimal}
-use Rattle.arrive.specs.Arrive.{Arrival, Line}
-use Rattle.arrive.specs.Feed.{foundLine, arrivalsOf, lastFound}
+use Rattle.arrive.specs.Arrive.{Arrival}
+use Rattle.arrive.specs.Feed.{lineFound, fed, foundLine, arrivalsOf, lastFound}
+use Rattle.arrive.specs.FeedLaws.{fed-line, fed-more}
 use Rattle.arrive.specs.FeedArrivalLaws.{feed-on}
 use Rattle.arrive.specs.declared.Fed.{Fed}
 use Rattle.arrive.specs.declared.Found.{Found}
 use Rattle.arrive.specs.declared.Found.the-variants as found
-use Rattle.record.specs.StepRecord.{stays}
 use Rattle.record.specs.declared.State.{State}
-use Rattle.text.specs.Fields.{tab}
-use Rattle.text.specs.Lines.{lf}
+use Rattle.record.specs.declared.Out.{Out}
+use Rattle.text.specs.Lines.{lineFrom, lineEnd}
 use Rattle.text.specs.Place.{room, putBytes}
-use Rattle.rules.specs.Log.{runField}
-use Rattle.walks.specs.Walk.{taskAt}
-use Rattle.text.specs.Ascii.{ascii}
-use Rattle.words.specs.Form.{sameBytes, stepOn}
-use Rattle.log_lines.specs.LogLine.{lineBytes, logBytes, badBytes}
-use Rattle.words.specs.Form.{headerBytes}
-use Rattle.script_lines.specs.LineRun.{awaiting, running, lineAnswered, lineFor, reported, ranLine, memoryLine, headLog, headed, memoryHead}
-use Rattle.script.specs.Session.{lineLog, lineState, lineStage, roomNumber, lineTaken, takenMemory, lineIn, foundTaken, foundMemory, turnWith, turned, Stand, carryAt, lineAt, freeOf, turnAt, standAt, stopAt, through, lastArrivals, leftArrivals, endRun}
+use Rattle.script_lines.specs.LineRun.{awaiting, lineAnswered}
+use Rattle.script.specs.Session.{logAt, Taken, lineTaken, takenMemory, stepAt, loggedAt, lineIn, lineb, foundTaken, foundMemory, turnWith, turned, Stand, fedAt, carryAt, lineAt, freeOf, turnAt, standAt, stopAt, through, movedWith, lastArrivals, leftArrivals, leftb, endRun, endMemory}
 use Rattle.script.specs.declared.session.Session.{Session}
 use Rattle.script.specs.declared.session.Moved.{Moved}
-use Rattle.script.specs.declared.session.Taken.{Taken}
-
--- no log line is empty
-line-some : (number value run : ℕ) → 0 < length (lineBytes number value run)
-unfolding lineBytes
-line-some number value run = omega (arith, length-append (decimal number) (tab ∷ (decimal value ++ (tab ∷ (runField (taskAt run) ++ (lf ∷ []))))))
-
-head-some : (line : List ℕ) → 0 < length (headLog line)
-unfolding headLog logBytes badBytes ascii
-head-some line = by-test {A = List ℕ} (λ l. 0 < length l) (sameBytes line headerBytes) (λ e. omega arith) (λ e. omega arith)
-
-some-number : (n : ℕ) → 0 < n → roomNumber n ≡ 0
-unfolding roomNumber
-some-number n h = rw (ne-eqb n 0 (λ z. omega arith))
-
-no-number : roomNumber 0 ≡ 8
-unfolding roomNumber
-no-number = refl
-
--- one line, by where the script stands
-module _ (k : State) (stage : ℕ) (line memory : List ℕ) where
-  -- what `run_line` answers, as the session takes it
-  pub ran-taken : eqb stage running ≡ true
-      → (record { state = (ranLine k line memory) .state; stage = stage; written = (ranLine k line memory) .written; number = roomNumber ((ranLine k line memory) .written) })
-      ≡ lineTaken k stage line memory
-  unfolding ranLine reported lineTaken lineLog lineState lineStage stays
-  ran-taken e =
-      let o = lineAnswered k (stepOn line) in
-      let full : roomNumber (length (lineFor (o .answer))) ≡ 0 = some-number _ (line-some _ _ _) in
-      rw e (elim (which (room memory 0 (lineFor (o .answer)))) [ inl r ↦ rw (r, full) | inr r ↦ rw (r, no-number) ])
-
-  pub ran-memory : eqb stage running ≡ true → memoryLine k line memory ≡ takenMemory k stage line memory
-  unfolding memoryLine takenMemory lineLog
-  ran-memory e = rw e
-
-  -- and what `run_header` answers
-  pub headed-taken : eqb stage running ≡ false → eqb stage awaiting ≡ true
-      → (record { state = k; stage = (headed line memory) .stage; written = (headed line memory) .written; number = roomNumber ((headed line memory) .written) })
-      ≡ lineTaken k stage line memory
-  unfolding headed lineTaken lineLog lineState lineStage
-  headed-taken d e =
-      let full : roomNumber (length (headLog line)) ≡ 0 = some-number _ (head-some line) in
-      let z : stage ≡ awaiting = eqb-true _ _ e in
-      rw (d, e) (elim (which (room memory 0 (headLog line))) [ inl r ↦ rw (r, full) | inr r ↦ rw (r, z, no-number) ])
-
-  pub headed-memory : eqb stage running ≡ false → eqb stage awaiting ≡ true → memoryHead line memory ≡ takenMemory k stage line memory
-  unfolding memoryHead takenMemory lineLog
-  headed-memory d e = rw (d, e)
-
-  -- behind a bad first line
-  pub passed-taken : eqb stage running ≡ false → eqb stage awaiting ≡ false → (record { state = k; stage = stage; written = 0; number = 0 }) ≡ lineTaken k stage line memory
-  unfolding lineTaken lineLog lineState lineStage
-  passed-taken d e = rw (d, e, le-leb 0 (length memory) (omega arith))
-
-  pub passed-memory : eqb stage running ≡ false → eqb stage awaiting ≡ false → memory ≡ takenMemory k stage line memory
-  unfolding takenMemory lineLog putBytes
-  passed-memory d e = rw (d, e, le-leb 0 (length memory) (omega arith))
-
--- no line's end was found
-unfoldable pub nothingb : Found → Bool
-nothingb (found.Part start end) = false
-nothingb (found.Carried n) = false
-nothingb found.Long = false
-nothingb found.Nothing = true
-
-module _ (k : State) (stage : ℕ) (carry bytes memory : List ℕ) where
-  pub line-lineTaken : (f : Found) → nothingb f ≡ false → lineTaken k stage (foundLine carry bytes f) memory ≡ foundTaken k stage (arrivalsOf carry bytes f) memory
-  unfolding nothingb foundTaken lineIn
-  line-lineTaken (found.Part start end) e = refl
-  line-lineTaken (found.Carried n) e = refl
-  line-lineTaken found.Long e = refl
-  line-lineTaken found.Nothing e = absurd (clash refl e)
-
-  pub line-memory : (f : Found) → nothingb f ≡ false → takenMemory k stage (foundLine carry bytes f) memory ≡ foundMemory k stage (arrivalsOf carry bytes f) memory
-  unfolding nothingb foundMemory lineIn
-  line-memory (found.Part start end) e = refl
-  line-memory (found.Carried n) e = refl
-  line-memory found.Long e = refl
-  line-memory found.Nothing e = absurd (clash refl e)
-
--- where there is no room nothing is written
-module _ (k : State) (stage : ℕ) (memory : List ℕ) where
-  pub stop-memory : (es : List Arrival) → ((foundTaken k stage es memory) .number ≡ 0 → ⊥) → foundMemory k stage es memory ≡ memory
-  unfolding foundTaken foundMemory lineTaken takenMemory putBytes
-  stop-memory [] h = refl
-  stop-memory (e ∷ es) h = elim (which (room memory 0 (lineLog k stage (lineIn e)))) [
-    | inl r ↦ absurd ((rw r at h) refl)
-    | inr r ↦ rw r
-  ]
-
-  pub stop-taken : (es : List Arrival) → ((foundTaken k stage es memory) .number ≡ 0 → ⊥) → foundTaken k stage es memory ≡ record { state = k; stage = stage; written = 0; number = 8 }
-  unfolding foundTaken lineTaken
-  stop-taken [] h = absurd (h refl)
-  stop-taken (e ∷ es) h = elim (which (room memory 0 (lineLog k stage (lineIn e)))) [
-    | inl r ↦ absurd ((rw r at h) refl)
-    | inr r ↦ rw r
-  ]
-
-  -- what is written is not more than the memory that is lent for it
-  pub found-short : (es : List Arrival) → (foundTaken k stage es memory) .written ≤ length memory
-  unfolding foundTaken lineTaken
-  found-short [] = omega arith
-  found-short (e ∷ es) =
-      let log = lineLog k stage (lineIn e) in
-      by-test {A = Taken} (λ r. r .written ≤ length memory) (room memory 0 log)
-      (λ r. let h : 0 + length log ≤ length memory = leb-true _ _ r in omega arith) (λ r. omega arith)
+use Rattle.script.specs.declared.session.Logged.{Logged}
+use Rattle.script.specs.LineLaws.{logged-memory, logged-taken, logged-stopped, line-taken, line-memory, none-found, stop-memory, stop-taken, found-short}
 
 -- a turn goes on
 pub turn-next : (bytes : List ℕ) (x : Stand) → x .next < length bytes → x .next < (turnAt bytes x) .next
@@ -178,11 +67,11 @@ module _ (bytes : List ℕ) (x : Stand) where
 
 -- what was found, with equals in place of equals
 module _ (s : Session) (bytes memory : List ℕ) (f g : Fed) (c d : List ℕ) (e : f ≡ g) (u : c ≡ d) where
-  pub turn-same : (t : Taken) → t ≡ foundTaken (s .state) (s .stage) (arrivalsOf c bytes (f .found)) memory → turnWith f t ≡ turned s g d bytes memory
+  turn-same : (t : Taken) → t ≡ foundTaken (s .state) (s .stage) (arrivalsOf c bytes (f .found)) memory → turnWith f t ≡ turned s g d bytes memory
   unfolding turned
   turn-same t h = ap (turnWith f) h ∙ (λ i. turnWith (e i) (foundTaken (s .state) (s .stage) (arrivalsOf (u i) bytes (e i .found)) memory))
 
-  pub memory-same : (m : List ℕ) → m ≡ foundMemory (s .state) (s .stage) (arrivalsOf c bytes (f .found)) memory
+  memory-same : (m : List ℕ) → m ≡ foundMemory (s .state) (s .stage) (arrivalsOf c bytes (f .found)) memory
       → m ≡ foundMemory (s .state) (s .stage) (arrivalsOf d bytes (g .found)) memory
   memory-same m h = h ∙ (λ i. foundMemory (s .state) (s .stage) (arrivalsOf (u i) bytes (e i .found)) memory)
 
@@ -196,52 +85,138 @@ rest-none l w = let h : length (drop w l) ≤ length l - w = omega (arith, lengt
 pub rest-back : (l : List ℕ) (w : ℕ) (m : List ℕ) → take w l ++ (m ++ drop (length l - w) (drop w l)) ≡ take w l ++ m
 rest-back l w m = rw (rest-none l w) (ap (λ z. take w l ++ z) (append-nil m))
 
--- one turn of the loop: what stands then, and what is left to do, is what was to do before it
-module _ (bytes : List ℕ) (x : Stand) (more : x .next < length bytes) (t : Moved) (is : t ≡ turnAt bytes x) where
-  pub turn-on : x .next < t .next
-  turn-on = let e : t .next ≡ (turnAt bytes x) .next = ap (λ (u : Moved). u .next) is in omega (arith, e, turn-next bytes x more)
+-- a line that was found, answered and logged, as the loop goes
+pub record Run (bytes : List ℕ) (x : Stand) (f : Fed) (c line : List ℕ) (o : Out) (l : Logged) : Type 0 where
+  pub cut : f ≡ fedAt bytes x
+  pub carried : c ≡ carryAt bytes x
+  pub ended : lineb (f .found) ≡ true
+  pub line-is : line ≡ foundLine c bytes (f .found)
+  pub answered : o ≡ lineAnswered (x .session .state) (stepAt (x .session .stage) line)
+  pub logged : l ≡ loggedAt (x .session .stage) (o .answer) line (freeOf x)
 
-  pub turn-short : x .written ≤ length (x .memory) → x .written + t .written ≤ length (x .memory)
+-- one turn of the loop: what stands then, and what is left to do, is what was to do before it
+module _ (bytes : List ℕ) (x : Stand) (f : Fed) (c line : List ℕ) (o : Out) (l : Logged) (r : Run bytes x f c line o l) where
+  run-found : lineTaken (x .session .state) (x .session .stage) line (freeOf x) ≡ foundTaken (x .session .state) (x .session .stage) (arrivalsOf c bytes (f .found)) (freeOf x)
+  run-found =
+      ap (λ z. lineTaken (x .session .state) (x .session .stage) z (freeOf x)) (r .line-is)
+      ∙ line-taken (x .session .state) (x .session .stage) c bytes (freeOf x) (f .found) (r .ended)
+
+  run-turn : l .number ≡ 0 → turnWith f (record { state = o .state; stage = l .stage; written = l .written; number = 0 }) ≡ turnAt bytes x
+  unfolding turnAt
+  run-turn n =
+      turn-same (x .session) bytes (freeOf x) f (fedAt bytes x) c (carryAt bytes x) (r .cut) (r .carried) _
+      (logged-taken (x .session .state) (x .session .stage) line (freeOf x) o (r .answered) l (r .logged) n ∙ run-found)
+
+  run-number : (l .number ≡ 0 → ⊥) → l .number ≡ (turnAt bytes x) .number
+  unfolding turnAt
+  run-number n =
+      sym (logged-stopped (x .session .state) (x .session .stage) line (freeOf x) o (r .answered) l (r .logged) n)
+      ∙ ap (λ (u : Moved). u .number) (turn-same (x .session) bytes (freeOf x) f (fedAt bytes x) c (carryAt bytes x) (r .cut) (r .carried) _ run-found)
+
+  pub run-short : l .number ≡ 0 → x .written ≤ length (x .memory) → x .written + l .written ≤ length (x .memory)
   unfolding turnAt turned
-  turn-short h =
-      let e : t .written ≡ (foundTaken (x .session .state) (x .session .stage) (lineAt bytes x) (freeOf x)) .written = ap (λ (u : Moved). u .written) is in
+  run-short n h =
+      let e : l .written ≡ (foundTaken (x .session .state) (x .session .stage) (lineAt bytes x) (freeOf x)) .written = ap (λ (u : Moved). u .written) (run-turn n) in
       omega (arith, e, found-short (x .session .state) (x .session .stage) (freeOf x) (lineAt bytes x), length-drop (x .written) (x .memory))
 
-  module _ (c : List ℕ) (u : c ≡ carryAt bytes x) (m : List ℕ) (v : m ≡ take (x .written) (x .memory) ++ foundMemory (x .session .state) (x .session .stage) (lineAt bytes x) (freeOf x)) where
-    pub turn-again : t .number ≡ 0
-        → through (length bytes) bytes (record { session = t .session; carry = c; memory = m; next = t .next; written = x .written + t .written }) ≡ through (length bytes) bytes x
-    unfolding standAt
-    turn-again n =
-        (λ i. through (length bytes) bytes (record { session = is i .session; carry = u i; memory = v i; next = is i .next; written = x .written + is i .written }))
-        ∙ sym (through-turn bytes x more (sym (ap (λ (w : Moved). w .number) is) ∙ n))
+  module _ (more : x .next < length bytes) (m : List ℕ) (v : m ≡ take (x .written) (x .memory) ++ putBytes (freeOf x) 0 (logAt (x .session .stage) (o .answer) line)) where
+    run-memory : m ≡ take (x .written) (x .memory) ++ foundMemory (x .session .state) (x .session .stage) (lineAt bytes x) (freeOf x)
+    run-memory =
+        let k = x .session .state in
+        let stage = x .session .stage in
+        let put = memory-same (x .session) bytes (freeOf x) f (fedAt bytes x) c (carryAt bytes x) (r .cut) (r .carried) _
+        (logged-memory k stage line (freeOf x) o (r .answered) ∙ ap (λ z. takenMemory k stage z (freeOf x)) (r .line-is) ∙ line-memory k stage c bytes (freeOf x) (f .found) (r .ended)) in
+        v ∙ ap (λ z. take (x .written) (x .memory) ++ z) put
 
-    pub turn-stop : (t .number ≡ 0 → ⊥)
-        → (record { stand = record { session = x .session; carry = c; memory = m; next = x .next; written = x .written }; number = t .number }) ≡ through (length bytes) bytes x
+    pub run-again : l .number ≡ 0
+        → through (length bytes) bytes (record { session = record { state = o .state; stage = l .stage; held = f .held }; carry = c; memory = m; next = f .next; written = x .written + l .written })
+        ≡ through (length bytes) bytes x
+    unfolding standAt
+    run-again n =
+        let t = run-turn n in
+        (λ i. through (length bytes) bytes (record { session = t i .session; carry = r .carried i; memory = run-memory i; next = t i .next; written = x .written + t i .written }))
+        ∙ sym (through-turn bytes x more (sym (ap (λ (w : Moved). w .number) t)))
+
+    pub run-stopped : (l .number ≡ 0 → ⊥)
+        → (record { stand = record { session = x .session; carry = c; memory = m; next = x .next; written = x .written }; number = l .number }) ≡ through (length bytes) bytes x
     unfolding turnAt turned
-    turn-stop n =
-        let other : (turnAt bytes x) .number ≡ 0 → ⊥ = λ z. n (ap (λ (w : Moved). w .number) is ∙ z) in
+    run-stopped n =
+        let other : (turnAt bytes x) .number ≡ 0 → ⊥ = λ z. n (run-number n ∙ z) in
         let same : m ≡ x .memory =
-        v ∙ ap (λ r. take (x .written) (x .memory) ++ r) (stop-memory (x .session .state) (x .session .stage) (freeOf x) (lineAt bytes x) other) ∙ take-append-drop (x .written) (x .memory) in
-        (λ i. record { stand = record { session = x .session; carry = u i; memory = same i; next = x .next; written = x .written }; number = is i .number })
+        run-memory ∙ ap (λ z. take (x .written) (x .memory) ++ z) (stop-memory (x .session .state) (x .session .stage) (freeOf x) (lineAt bytes x) other) ∙ take-append-drop (x .written) (x .memory) in
+        (λ i. record { stand = record { session = x .session; carry = r .carried i; memory = same i; next = x .next; written = x .written }; number = run-number n i })
         ∙ sym (through-stop bytes x more other)
+
+-- a turn goes on
+pub cut-on : (bytes : List ℕ) (x : Stand) (f : Fed) → f ≡ fedAt bytes x → x .next < length bytes → x .next < f .next
+cut-on bytes x f e more = let z : f .next ≡ fedAt bytes x .next = ap (λ (g : Fed). g .next) e in omega (arith, z, feed-on (x .carry) (x .session .held) bytes (x .next) more)
+
+-- no line's end is found only where the piece ends
+found-some : (carry : List ℕ) (held : ℕ) (part : List ℕ) (start end : ℕ) → lineb (lineFound carry held part start end) ≡ true
+unfolding lineFound lineb
+found-some carry held part start end = elim (which (room carry held part)) [
+  | inl r ↦ elim (which (eqb held 0)) [ inl e ↦ rw (r, e) | inr e ↦ rw (r, e) ]
+  | inr r ↦ rw r
+]
+
+none-end : (carry : List ℕ) (held : ℕ) (bytes : List ℕ) (at : ℕ) → lineb (fed carry held bytes at .found) ≡ false → length bytes ≤ fed carry held bytes at .next
+none-end carry held bytes at e = elim (which (ltb (lineEnd bytes at) (length bytes))) [
+  | inl t ↦
+      let h : lineEnd bytes at < length bytes = ltb-true _ _ t in
+      let z : lineb (lineFound carry held (lineFrom bytes at) at (lineEnd bytes at)) ≡ false = rw (fed-line carry held bytes at h) at e in
+      absurd (clash (found-some carry held (lineFrom bytes at) at (lineEnd bytes at)) z)
+  | inr t ↦ let h : length bytes ≤ lineEnd bytes at = ltb-false _ _ t in rw (fed-more carry held bytes at h) h
+]
+
+-- what is then left of the piece is held
+module _ (bytes : List ℕ) (x : Stand) (more : x .next < length bytes) (f : Fed) (c : List ℕ) (cut : f ≡ fedAt bytes x) (carried : c ≡ carryAt bytes x) (no : lineb (f .found) ≡ false) where
+  no-line : lineb (fedAt bytes x .found) ≡ false
+  no-line = sym (ap (λ (g : Fed). lineb (g .found)) cut) ∙ no
+
+  held-turn : turnAt bytes x ≡ turnWith (fedAt bytes x) (record { state = x .session .state; stage = x .session .stage; written = 0; number = 0 })
+  unfolding turnAt turned foundTaken
+  held-turn = rw (none-found (fedAt bytes x .found) no-line)
+
+  held-memory : take (x .written) (x .memory) ++ foundMemory (x .session .state) (x .session .stage) (lineAt bytes x) (freeOf x) ≡ x .memory
+  unfolding foundMemory
+  held-memory = rw (none-found (fedAt bytes x .found) no-line) (take-append-drop (x .written) (x .memory))
+
+  pub run-held : (record { stand = record { session = record { state = x .session .state; stage = x .session .stage; held = f .held }; carry = c; memory = x .memory; next = f .next; written = x .written }; number = 0 })
+      ≡ through (length bytes) bytes x
+  unfolding standAt
+  run-held =
+      let after : Stand = record { session = record { state = x .session .state; stage = x .session .stage; held = fedAt bytes x .held }; carry = carryAt bytes x; memory = x .memory; next = fedAt bytes x .next; written = x .written } in
+      let nothing : x .written + 0 ≡ x .written = omega arith in
+      let stands : standAt bytes x ≡ after =
+      λ i. record { session = held-turn i .session; carry = carryAt bytes x; memory = held-memory i; next = held-turn i .next; written = (ap (λ (t : Moved). x .written + t .written) held-turn ∙ nothing) i } in
+      sym (through-turn bytes x more (ap (λ (t : Moved). t .number) held-turn)
+      ∙ ap (through (length bytes) bytes) stands
+      ∙ through-end bytes after (none-end (x .carry) (x .session .held) bytes (x .next) no-line)
+      ∙ (λ i. record { stand = record { session = record { state = x .session .state; stage = x .session .stage; held = sym cut i .held }; carry = sym carried i; memory = x .memory; next = sym cut i .next; written = x .written }; number = 0 }))
 
 -- the end of a script: by what was left of it
 module _ (stage : ℕ) (carry : List ℕ) (held : ℕ) where
-  pub left-none : held ≡ 0 → stage ≡ awaiting → leftArrivals stage carry held ≡ Line [] ∷ []
-  unfolding leftArrivals lastArrivals lastFound
-  left-none h e = rw (eq-eqb _ _ h, eq-eqb _ _ e)
+  left-over : leftb stage held ≡ false → leftArrivals stage carry held ≡ []
+  unfolding leftb leftArrivals lastArrivals lastFound
+  left-over e = elim (which (eqb held 0)) [
+    | inl h ↦ let z : eqb stage awaiting ≡ false = rw h at e in rw (h, z)
+    | inr h ↦ absurd (clash refl (rw h at e))
+  ]
 
-  pub left-over : held ≡ 0 → (stage ≡ awaiting → ⊥) → leftArrivals stage carry held ≡ []
-  unfolding leftArrivals lastArrivals lastFound
-  left-over h e = rw (eq-eqb _ _ h, ne-eqb _ _ e)
+  module _ (k : State) (memory : List ℕ) (left : leftb stage held ≡ true) where
+    pub left-taken : lineTaken k stage (foundLine carry [] (lastFound carry held)) memory ≡ foundTaken k stage (leftArrivals stage carry held) memory
+    unfolding leftb leftArrivals lastArrivals lastFound foundTaken lineIn
+    left-taken = elim (which (eqb held 0)) [
+      | inl h ↦ let z : eqb stage awaiting ≡ true = rw h at left in rw (h, z)
+      | inr h ↦ elim (which (leb held (length carry))) [ inl t ↦ rw (h, t) | inr t ↦ rw (h, t) ]
+    ]
 
-  pub left-line : (held ≡ 0 → ⊥) → leftArrivals stage carry held ≡ arrivalsOf carry [] (lastFound carry held)
-  unfolding leftArrivals lastArrivals lastFound
-  left-line h = rw (ne-eqb _ _ h) (go (leb held (length carry)))
-    where
-      go : (b : Bool) → lastArrivals stage (arrivalsOf carry [] (cond b (found.Carried held) found.Long)) ≡ arrivalsOf carry [] (cond b (found.Carried held) found.Long)
-      go true = refl
-      go false = refl
+    pub left-memory : takenMemory k stage (foundLine carry [] (lastFound carry held)) memory ≡ foundMemory k stage (leftArrivals stage carry held) memory
+    unfolding leftb leftArrivals lastArrivals lastFound foundMemory lineIn
+    left-memory = elim (which (eqb held 0)) [
+      | inl h ↦ let z : eqb stage awaiting ≡ true = rw h at left in rw (h, z)
+      | inr h ↦ elim (which (leb held (length carry))) [ inl t ↦ rw (h, t) | inr t ↦ rw (h, t) ]
+    ]
 
 one-last : (stage : ℕ) (carry : List ℕ) (f : Found) → length (lastArrivals stage (arrivalsOf carry [] f)) ≤ 1
 unfolding lastArrivals
@@ -277,3 +252,9 @@ module _ (s : Session) (carry memory : List ℕ) (t : Taken) (is : t ≡ foundTa
       let es = leftArrivals (s .stage) carry (s .held) in
       let other : (foundTaken (s .state) (s .stage) es memory) .number ≡ 0 → ⊥ = λ z. n (ap (λ (w : Taken). w .number) is ∙ z) in
       rw (is, stop-taken (s .state) (s .stage) memory es other)
+
+-- nothing was left
+pub end-over : (s : Session) (carry memory : List ℕ) → leftb (s .stage) (s .held) ≡ false
+    → (movedWith (s .state) (s .stage) 0 0 0 0 ≡ endRun s carry memory) × (memory ≡ endMemory s carry memory)
+unfolding endRun endMemory foundTaken foundMemory
+end-over s carry memory e = let z = left-over (s .stage) carry (s .held) e in (rw z, rw z)

@@ -1,11 +1,11 @@
-// Runs a script that lies whole in lent memory, a line at a time by its place, and sessions with too little lent memory; what they write is
-// compared with the stored output.
+// Runs a script that lies whole in lent memory, a line at a time by its place, sessions with too little lent memory, and one with a record that
+// isn't sound; what they write is compared with the stored output.
 mod stops;
+mod unsound;
 
 use libc::STDOUT_FILENO;
 use reader::whole;
 use record::State;
-use script_lines::lent;
 use script_lines::run;
 use text::cut;
 
@@ -19,7 +19,7 @@ fn put(log: &[u8], n: usize) {
 // The line that begins at `at`, and its log line written.
 fn step(s: State, text: &[u8], at: usize) -> State {
     let mut log = [0u8; LINE];
-    let r = lent::run_at(s, text, at, &mut log);
+    let r = run::run_line(s, reader::line_at(text, at), &mut log);
     put(&log, r.written);
     r.state
 }
@@ -38,11 +38,12 @@ fn replay(text: &[u8]) {
     }
 }
 
-// Document 01's whole session, with an empty line, one that is no step, and a last line without LF; then the sessions that stop.
+// Document 01's whole session, with an empty line, one that is no step, and a last line without LF; then the other sessions.
 fn main() {
     replay(
         b"kernel\t1\ntask\t5\ntask\t3\ntask\t1\nmutex\t1\nstart\nsleep\t3\nsleep\t2\nlock\t0\t0\ntick\ntick\ntick\nlock\t0\t10\nlevel\t0\nunlock\t0\n\nrest\t1\ntick",
     );
     stops::good();
     stops::bad();
+    unsound::between_pieces();
 }

@@ -1,19 +1,22 @@
 -- One line run on a record with lent memory for its log line: what comes back for every record, every line and every length.
 use Prim.Native.Nat.{ℕ}
 use mathlib.Core.List.{List}
-use mathlib.Core.Bool.{cond}
+use mathlib.Core.Bool.{Bool, cond}
 use mathlib.Core.Option.{Option, none, some}
 use lib.ListN.{length}
 use Rattle.text.specs.Place.{room, putBytes}
 use Rattle.rules.specs.Step.{Step}
 use Rattle.record.specs.StepRecord.{numberOf, valueOf, runOf, stays, stepOf}
-use Rattle.record.specs.DemandRecord.{requestFor, standingIn}
+use Rattle.record.specs.DemandRecord.{requestFor, standingBy, standingIn}
 use Rattle.record.specs.declared.State.{State}
 use Rattle.record.specs.declared.Out.{Out}
 use Rattle.record.specs.declared.Answer.{Answer}
+use Rattle.machine.specs.Machine.{machineStep}
 use Rattle.words.specs.Form.{sameBytes, stepOn}
 use Rattle.log_lines.specs.LogLine.{lineBytes, logBytes, badBytes}
 use Rattle.words.specs.Form.{headerBytes}
+use Rattle.words.specs.declared.Reading.{Reading}
+use Rattle.words.specs.declared.Reading.the-variants.{Made, Malformed}
 use Rattle.script_lines.specs.declared.run.Ran.{Ran}
 use Rattle.script_lines.specs.declared.run.Headed.{Headed}
 
@@ -21,6 +24,12 @@ use Rattle.script_lines.specs.declared.run.Headed.{Headed}
 unfoldable pub lineAnswered : State → Option Step → Out
 lineAnswered k none = stays k 14 0 (standingIn k)
 lineAnswered k (some x) = stepOf k (requestFor x)
+
+-- the same for what was read of a line, on a record that was tested before: `sound` is what the test said. Where it says the truth it is the
+-- same (`LineRunLaws.answered-tested`); what it is of any other record is free, and is named here
+unfoldable pub answeredTested : Bool → State → Reading → Out
+answeredTested sound k (Made x) = cond sound (machineStep k x) (stays k 15 0 none)
+answeredTested sound k Malformed = stays k 14 0 (standingBy sound k)
 
 -- "one line for each script line: answer, value, running task or `-`"
 abbrev pub lineFor : Answer → List ℕ

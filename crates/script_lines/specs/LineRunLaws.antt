@@ -9,7 +9,7 @@ use native.Mathlib.Omega.{arith}
 use lib.Dec.{leb}
 use lib.ListN.{length, drop}
 use borrow.Author.Tests.{leb-false}
-use Rattle.lists.specs.TestLaws.{which, and-r}
+use Rattle.lists.specs.TestLaws.{which, by-test, and-r}
 use Rattle.text.specs.Place.{room, putAnswer, putBytes}
 use Rattle.text.specs.declared.place.Put.the-variants.{Next, Full}
 use Rattle.rules.specs.Step.{Step}
@@ -22,18 +22,18 @@ use Rattle.record.specs.SoundRecord.{soundOf}
 use Rattle.record.specs.GoodRecord.{Typed}
 use Rattle.record.specs.SoundPackLaws.{sound-pack}
 use Rattle.record.specs.StepRecord.{numberOf, answerFor, outFor, stays, stepOf}
-use Rattle.record.specs.DemandRecordLaws.{refused-stays}
+use Rattle.record.specs.DemandRecordLaws.{step-verdict, step-typed, refused-stays}
+use Rattle.machine.specs.Machine.{machineStep}
+use Rattle.machine.specs.MachineLaws.{sound-step}
+use Rattle.record.specs.declared.Request.{Request}
 use Rattle.record.specs.DemandRecord.{requestFor, readOut, standingIn, inMemory, callRecord}
 use Rattle.record.specs.declared.State.{State}
 use Rattle.record.specs.declared.Out.{Out}
-use Rattle.record.specs.declared.Answer.{Answer}
-use Rattle.record.specs.declared.Request.{Request}
 use Rattle.words.specs.Form.{sameBytes, stepOn}
 use Rattle.log_lines.specs.LogLine.{lineBytes, logBytes, badBytes}
 use Rattle.words.specs.Form.{headerBytes}
 use Rattle.words.specs.Reading.{readingFor}
-use Rattle.words.specs.declared.Reading.the-variants.{Made, Malformed}
-use Rattle.script_lines.specs.LineRun.{awaiting, running, over, lineAnswered, lineFor, ranWith, reported, ranLine, memoryLine, headLog, headStage, headed}
+use Rattle.script_lines.specs.LineRun.{awaiting, running, over, lineAnswered, answeredTested, lineFor, ranWith, reported, ranLine, memoryLine, headLog, headStage, headed}
 use Rattle.script_lines.specs.declared.run.Ran.{Ran}
 
 -- the line that reports an answer is the rules' log line of it
@@ -48,16 +48,30 @@ either : (b : Bool) (o p : Out) (n m : ℕ) → outOf (cond b (ranWith o n) (ran
 either true o p n m = refl
 either false o p n m = refl
 
--- by what was read: a step's request, or nothing of the form
-pub read-made : (k : State) (o : Option Step) (x : Request) → readingFor o ≡ Made x → lineAnswered k o ≡ stepOf k x
-unfolding readingFor lineAnswered
-read-made k none x e = absurd (let z : _≡_ {A = ℕ} 0 1 = cc in omega arith)
-read-made k (some y) x e = ap (stepOf k) (cc)
+-- a step on a sound record is what the machine makes of it, and any other record is answered 15
+unsound-step : (k : State) (x : Request) → soundOf k ≡ false → stays k 15 0 none ≡ stepOf k x
+unfolding stepOf
+unsound-step k x e = rw e
 
-pub read-none : (k : State) (o : Option Step) → readingFor o ≡ Malformed → lineAnswered k o ≡ stays k 14 0 (standingIn k)
-unfolding readingFor lineAnswered
-read-none k none e = refl
-read-none k (some y) e = absurd (let z : _≡_ {A = ℕ} 0 1 = cc in omega arith)
+step-tested : (k : State) → Typed k → (x : Request) → cond (soundOf k) (machineStep k x) (stays k 15 0 none) ≡ stepOf k x
+step-tested k T x = by-test (λ o. o ≡ stepOf k x) (soundOf k) (λ e. sound-step k T e x) (λ e. unsound-step k x e)
+
+-- what was read of a line, answered with what the test says of the record
+pub answered-tested : (k : State) → Typed k → (o : Option Step) → answeredTested (soundOf k) k (readingFor o) ≡ lineAnswered k o
+unfolding answeredTested readingFor lineAnswered standingIn
+answered-tested k T none = refl
+answered-tested k T (some x) = step-tested k T (requestFor x)
+
+-- a line leaves a sound record sound, and one that isn't as it was; and the record handed on has the lengths and the numbers of its type
+pub answered-verdict : (k : State) (o : Option Step) → soundOf ((lineAnswered k o) .state) ≡ soundOf k
+unfolding lineAnswered stays
+answered-verdict k none = refl
+answered-verdict k (some x) = step-verdict k (requestFor x)
+
+pub answered-typed : (k : State) (o : Option Step) → Typed k → Typed ((lineAnswered k o) .state)
+unfolding lineAnswered stays
+answered-typed k none T = T
+answered-typed k (some x) T = step-typed k (requestFor x) T
 
 from-front : (l : List ℕ) → 0 + length l ≡ length l
 from-front l = omega arith
@@ -151,15 +165,15 @@ module _ (k : State) (o : Out) (log memory : List ℕ) where
     | inr r ↦ rw r
   ]
 
--- a line by the case of its answer: a is the answer, with its own number, value and task
-module _ (k : State) (line memory : List ℕ) (o : Out) (is : o ≡ lineAnswered k (stepOn line)) (a : Answer) (e : o .answer ≡ a) where
-  pub answer-reported : reported k o (lineFor a) memory ≡ ranLine k line memory
+-- a line by what it was answered
+module _ (k : State) (line memory : List ℕ) (o : Out) (is : o ≡ lineAnswered k (stepOn line)) where
+  pub answer-reported : reported k o (lineFor (o .answer)) memory ≡ ranLine k line memory
   unfolding ranLine
-  answer-reported = ap (λ b. reported k o (lineFor b) memory) (sym e) ∙ ap (λ p. reported k p (lineFor (p .answer)) memory) is
+  answer-reported = ap (λ p. reported k p (lineFor (p .answer)) memory) is
 
-  pub answer-memory : putBytes memory 0 (lineFor a) ≡ memoryLine k line memory
+  pub answer-memory : putBytes memory 0 (lineFor (o .answer)) ≡ memoryLine k line memory
   unfolding memoryLine
-  answer-memory = ap (λ b. putBytes memory 0 (lineFor b)) (sym e) ∙ ap (λ p. putBytes memory 0 (lineFor (p .answer))) is
+  answer-memory = ap (λ p. putBytes memory 0 (lineFor (p .answer))) is
 
 pub head-good : (line : List ℕ) → sameBytes line headerBytes ≡ true → (headLog line ≡ logBytes) × (headStage line ≡ running)
 unfolding headLog headStage

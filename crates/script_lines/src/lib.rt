@@ -1,3 +1,2 @@
 // One line of a script: its step made, and its log line written.
-pub mod lent;
 pub mod run;

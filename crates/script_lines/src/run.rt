@@ -1,11 +1,10 @@
 // One line of a script run on a record, with lent memory for its log line.
 ghost use mathlib.Core.Path.{_≡_};
-ghost use Rattle.text.specs.Place.{putBytes};
+ghost use Rattle.text.specs.Place.{putAnswer, putBytes};
 ghost use Rattle.record.specs.StepRecord.{stays};
-ghost use Rattle.record.specs.DemandRecord.{standingIn};
-ghost use Rattle.words.specs.Form.{stepOn};
-ghost use Rattle.log_lines.specs.LogLine.{lineBytes};
-ghost use Rattle.script_lines.specs.LineRun.{lineAnswered, ranWith, reported, ranLine, memoryLine, headed, memoryHead};
+ghost use Rattle.record.specs.DemandRecord.{standingBy};
+ghost use Rattle.script_lines.specs.LineRun.{answeredTested, lineFor, ranWith, ranLine, memoryLine, headed, memoryHead};
+use kernel::refused;
 use record::Answer;
 use record::Out;
 use record::State;
@@ -32,22 +31,41 @@ pub struct Headed {
     pub written: usize,
 }
 
-// The line's step made, or 14.
-fn answer_line(s: State, line: &[u8]) -> Out
-    ensures { λ r. ⌜ r ≡ lineAnswered s (stepOn (now (line .entry))) ⌝ }
+// What was read of a line, answered on a record that was tested before, `sound` being what the test said: 14, 15, or its step made.
+pub fn answer(s: State, sound: bool, reading: Reading) -> Out
+    ensures { λ r. ⌜ r ≡ answeredTested sound s reading ⌝ }
 {
-    let reading = syntax::read_line(line);
     let Reading::Made(request) = reading else {
-        return kernel::malformed(s);
+        return refused::malformed(s, sound);
     };
-    kernel::step(s, request)
+    if !sound {
+        return refused::unsound(s);
+    }
+    steps::perform(s, request)
+}
+
+// An answer's log line at the front of the lent memory.
+pub fn log_answer(a: Answer, log: &mut [u8]) -> Put
+    ensures answer { λ r. ⌜ r ≡ putAnswer (now (log .entry)) 0 (lineFor a) ⌝ }
+    ensures memory { λ r. ⌜ now (log .exit) ≡ putBytes (now (log .entry)) 0 (lineFor a) ⌝ }
+{
+    let Answer::Accepted { number, value, run } = a else {
+        // refused: only logged, the record being still the one handed in
+        let Answer::Refused { number, value, run } = a else {
+            // never reached: an answer is accepted or refused
+            return Put::Full;
+        };
+        return log_lines::write_line(log, number, value, run);
+    };
+    // accepted: goes on
+    log_lines::write_line(log, number, value, run)
 }
 
 // The log's 8: its line has no room, and the step isn't made.
-fn without_room(s: State) -> Ran
-    ensures { λ r. ⌜ r ≡ ranWith (stays s 8 0 (standingIn s)) 0 ⌝ }
+fn without_room(s: State, sound: bool) -> Ran
+    ensures { λ r. ⌜ r ≡ ranWith (stays s 8 0 (standingBy sound s)) 0 ⌝ }
 {
-    let o = kernel::without_room(s);
+    let o = refused::without_room(s, sound);
     let a = o.answer;
     let same = o.state;
     Ran {
@@ -57,40 +75,24 @@ fn without_room(s: State) -> Ran
     }
 }
 
-// An answer logged by its number, value and task, at the front of the lent memory; without room the step isn't made.
-fn report(s: State, o: Out, number: u8, value: u32, run: u8, log: &mut [u8]) -> Ran
-    ensures answer { λ r. ⌜ r ≡ reported s o (lineBytes number value run) (now (log .entry)) ⌝ }
-    ensures memory { λ r. ⌜ now (log .exit) ≡ putBytes (now (log .entry)) 0 (lineBytes number value run) ⌝ }
-{
-    let a = o.answer;
-    let next = o.state;
-    match log_lines::write_line(log, number, value, run) {
-        Put::Next(n) => Ran {
-            state: next,
-            answer: a,
-            written: n,
-        },
-        Put::Full => without_room(s),
-    }
-}
-
 // One line: its step made, and reported by a log line at the front of the lent memory.
 pub fn run_line(s: State, line: &[u8], log: &mut [u8]) -> Ran
     ensures answer { λ r. ⌜ r ≡ ranLine s (now (line .entry)) (now (log .entry)) ⌝ }
     ensures memory { λ r. ⌜ now (log .exit) ≡ memoryLine s (now (line .entry)) (now (log .entry)) ⌝ }
 {
-    let o = answer_line(s, line);
+    let sound = sound::is_sound(s);
+    let reading = syntax::read_line(line);
+    let o = answer(s, sound, reading);
     let a = o.answer;
-    let Answer::Accepted { number, value, run } = a else {
-        // refused: only logged, and the record is still the one handed in
-        let Answer::Refused { number, value, run } = a else {
-            // never reached: an answer is accepted or refused
-            return without_room(s);
-        };
-        return report(s, o, number, value, run, log);
+    let next = o.state;
+    let Put::Next(n) = log_answer(a, log) else {
+        return without_room(s, sound);
     };
-    // accepted: goes on
-    report(s, o, number, value, run, log)
+    Ran {
+        state: next,
+        answer: a,
+        written: n,
+    }
 }
 
 // The script's first line: the log's first line, or `bad`, at the front of the lent memory.

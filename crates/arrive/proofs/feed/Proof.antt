@@ -10,13 +10,13 @@ use Rattle.arrive.specs.FeedLaws.{fed-line, fed-more, carry-line, carry-
 use Rattle.arrive.proofs.feed.Statement.{statement}
 use Rattle.arrive.proofs.feed.Tie as tie
 
-line-requires : tie.Need-line-requires
-line-requires c κs = search needs
+line-at-requires : tie.Need-line-at-requires
+line-at-requires c κs = search needs
 
 add-end : tie.Need-add-end
 add-end c =
     let a = c .before .before .before .args in
-    rw (c .line .ensures) (omega (arith, upTo-most lf (drop (a .at) (a .bytes .now)), length-drop (a .at) (a .bytes .now)))
+    rw (c .line-at .ensures) (omega (arith, upTo-most lf (drop (a .at) (a .bytes .now)), length-drop (a .at) (a .bytes .now)))
 
 close-requires : tie.Need-close-requires
 close-requires c κs = search needs
@@ -30,7 +30,7 @@ same-length c = search needs
 returns : tie.Need-returns
 returns c =
     let a = c .before .before .before .before .before .before .before .before .args in
-    let p = c .before .before .before .before .before .line .ensures in
+    let p = c .before .before .before .before .before .line-at .ensures in
     let k = c .before .before .close in
     let h : lineEnd (a .bytes .now) (a .at) < length (a .bytes .now) = rw p at (c .before .before .before .before .if1 .taken) in
     (rw (k .ensures .0, p) (sym (fed-line _ _ _ _ h)), rw (k .ensures .1, p) (sym (carry-line _ _ _ _ h)))
@@ -44,7 +44,7 @@ same-length-2 c = search needs
 returns-2 : tie.Need-returns-2
 returns-2 c =
     let a = c .before .before .before .before .before .before .before .before .args in
-    let p = c .before .before .before .before .before .line .ensures in
+    let p = c .before .before .before .before .before .line-at .ensures in
     let k = c .before .before .keep in
     let h : length (a .bytes .now) ≤ lineEnd (a .bytes .now) (a .at) = rw p at (c .before .before .before .before .if1 .left) in
     (rw (k .ensures .0, p) (sym (fed-more _ _ _ _ h)), rw (k .ensures .1, p) (sym (carry-more _ _ _ _ h)))
@@ -53,7 +53,7 @@ pub feed-spec : {M : Type 1} → statement M
 feed-spec =
     tie.close
     (tie.spec
-    line-requires
+    line-at-requires
     add-end
     close-requires
     add-t13

@@ -1,22 +1,35 @@
--- `run_line`: by the answer's case.
-use mathlib.Core.Path.{_∙_}
-use Rattle.record.specs.StepRecord.{numberOf, valueOf, runOf}
-use Rattle.script_lines.specs.LineRunLaws.{answer-reported, answer-memory}
+-- `run_line`: what the record answers with what the test says of it, and its log line; by the room for it.
+use mathlib.Core.Path.{ap, sym, _∙_}
+use Rattle.record.specs.StepRecord.{stays}
+use Rattle.record.specs.DemandRecord.{standingBy, standingIn}
+use Rattle.words.specs.Form.{stepOn}
+use Rattle.script_lines.specs.LineRun.{answeredTested, lineFor, ranWith}
+use Rattle.script_lines.specs.LineRunLaws.{answered-tested, reported-next, reported-full, answer-reported, answer-memory}
 use borrow.Author.Needs.{needs}
 use Rattle.script_lines.proofs.run.run_line.Statement.{statement}
 use Rattle.script_lines.proofs.run.run_line.Tie as tie
+use Rattle.script_lines.proofs.run.run_line.Reads as reads
+use Rattle.script_lines.proofs.run.run_line.Lts as lts
+use Rattle.script_lines.proofs.run.answer.Reads as answer-reads
+use Rattle.script_lines.proofs.run.log_answer.Reads as log-answer-reads
+use Rattle.script_lines.proofs.run.without_room.Reads as without-room-reads
+use Rattle.sound.proofs.is_sound.Reads as is-sound-reads
+use Rattle.syntax.proofs.read_line.Reads as read-line-reads
 
-answer-line-requires : tie.Need-answer-line-requires
-answer-line-requires c κs = search needs
+is-sound-requires : tie.Need-is-sound-requires
+is-sound-requires c κs = search needs
 
-enum-known-a : tie.Need-enum-known-a
-enum-known-a c = search needs
+read-line-requires : tie.Need-read-line-requires
+read-line-requires c κs = search needs
 
-enum-known-a-2 : tie.Need-enum-known-a-2
-enum-known-a-2 c = search needs
+answer-requires : tie.Need-answer-requires
+answer-requires c κs = search needs
 
-enum-known-a-3 : tie.Need-enum-known-a-3
-enum-known-a-3 c = search needs
+log-answer-requires : tie.Need-log-answer-requires
+log-answer-requires c κs = search needs
+
+enum-known-n : tie.Need-enum-known-n
+enum-known-n c = search needs
 
 enum-told : tie.Need-enum-told
 enum-told c = search needs
@@ -24,54 +37,50 @@ enum-told c = search needs
 without-room-requires : tie.Need-without-room-requires
 without-room-requires c κs = search needs
 
--- an answer that is neither accepted nor refused: there is none
-returns : tie.Need-returns
-returns c = search needs
-
-report-requires : tie.Need-report-requires
-report-requires c κs = search needs
-
 same-length : tie.Need-same-length
 same-length c = search needs
 
-returns-2 : tie.Need-returns-2
-unfolding numberOf valueOf runOf
-returns-2 c =
+returns : tie.Need-returns
+unfolding standingIn
+returns c =
     let a = c .before .before .before .before .before .before .before .before .before .before .before .before .before .args in
-    let o = c .before .before .before .before .before .before .before .before .before .before .answer-line in
-    let r = c .before .before .report .ensures in
-    let is = c .before .before .before .before .before .before .before .before .a2 .given .1 ∙ c .before .before .before .before .before .a3 .given .1 in
-    (r .0 ∙ answer-reported (a .s) (a .line .now) (a .log .now) (o .result) (o .ensures) _ is, r .1 ∙ answer-memory (a .s) (a .line .now) (a .log .now) (o .result) (o .ensures) _ is)
-
-report-requires-2 : tie.Need-report-requires-2
-report-requires-2 c κs = search needs
+    let t = c .before .before .before .before .before .before .before .before .before .before .is-sound .ensures in
+    let o = c .before .before .before .before .before .before .before .before .answer in
+    let w = c .before .before .before .before .before .log-answer .ensures in
+    let is = o .ensures ∙ (λ i. answeredTested (t .0 i) (a .s) (c .before .before .before .before .before .before .before .before .before .read-line .ensures i)) ∙ answered-tested (a .s) (t .1) (stepOn (a .line .now)) in
+    let full = reported-full (a .s) (o .result) (lineFor (o .result .answer)) (a .log .now) (sym (w .0) ∙ c .before .enum-told .given .1) in
+    let stands = ap (λ b. ranWith (stays (a .s) 8 0 (standingBy b (a .s))) 0) (t .0) in (
+      c .without-room .ensures ∙ stands ∙ full ∙ answer-reported (a .s) (a .line .now) (a .log .now) (o .result) is,
+      w .1 ∙ answer-memory (a .s) (a .line .now) (a .log .now) (o .result) is,
+    )
 
 same-length-2 : tie.Need-same-length-2
 same-length-2 c = search needs
 
-returns-3 : tie.Need-returns-3
-unfolding numberOf valueOf runOf
-returns-3 c =
-    let a = c .before .before .before .before .before .before .before .before .before .before .args in
-    let o = c .before .before .before .before .before .before .before .answer-line in
-    let r = c .before .before .report2 .ensures in
-    let is = c .before .before .before .before .before .a .given .1 in
-    (r .0 ∙ answer-reported (a .s) (a .line .now) (a .log .now) (o .result) (o .ensures) _ is, r .1 ∙ answer-memory (a .s) (a .line .now) (a .log .now) (o .result) (o .ensures) _ is)
+returns-2 : tie.Need-returns-2
+returns-2 c =
+    let a = c .before .before .before .before .before .before .before .before .before .before .before .before .before .args in
+    let t = c .before .before .before .before .before .before .before .before .before .before .is-sound .ensures in
+    let o = c .before .before .before .before .before .before .before .before .answer in
+    let w = c .before .before .before .before .before .log-answer .ensures in
+    let is = o .ensures ∙ (λ i. answeredTested (t .0 i) (a .s) (c .before .before .before .before .before .before .before .before .before .read-line .ensures i)) ∙ answered-tested (a .s) (t .1) (stepOn (a .line .now)) in
+    let next = reported-next (a .s) (o .result) (lineFor (o .result .answer)) (a .log .now) _ (sym (w .0) ∙ c .before .n .given .1) in (
+      next ∙ answer-reported (a .s) (a .line .now) (a .log .now) (o .result) is,
+      w .1 ∙ answer-memory (a .s) (a .line .now) (a .log .now) (o .result) is,
+    )
 
 pub run-line-spec : {M : Type 1} → statement M
 run-line-spec =
     tie.close
     (tie.spec
-    answer-line-requires
-    enum-known-a
-    enum-known-a-2
-    enum-known-a-3
+    is-sound-requires
+    read-line-requires
+    answer-requires
+    log-answer-requires
+    enum-known-n
     enum-told
     without-room-requires
-    returns
-    report-requires
     same-length
-    returns-2
-    report-requires-2
+    returns
     same-length-2
-    returns-3)
+    returns-2)

@@ -1,8 +1,8 @@
--- `kernel::stopped`: the record stays.
+-- `refused::stopped`: the record stays.
 use Rattle.record.specs.StepRecord.{answerFor, stays}
 use borrow.Author.Needs.{needs}
-use Rattle.kernel.proofs.stopped.Statement.{statement}
-use Rattle.kernel.proofs.stopped.Tie as tie
+use Rattle.kernel.proofs.refused.stopped.Statement.{statement}
+use Rattle.kernel.proofs.refused.stopped.Tie as tie
 
 standing-requires : tie.Need-standing-requires
 standing-requires c κs = search needs

@@ -1,7 +1,7 @@
--- `kernel::without_room` meets its contract.
+-- `refused::without_room` meets its contract.
 use borrow.Author.Needs.{needs}
-use Rattle.kernel.proofs.without_room.Statement.{statement}
-use Rattle.kernel.proofs.without_room.Tie as tie
+use Rattle.kernel.proofs.refused.without_room.Statement.{statement}
+use Rattle.kernel.proofs.refused.without_room.Tie as tie
 
 stopped-requires : tie.Need-stopped-requires
 stopped-requires c κs = search needs

@@ -1,0 +1,21 @@
+-- `read`: by where the script stands.
+use borrow.Author.Tests.{eq-eqb, ne-eqb}
+use Rattle.words.specs.Reading.{readingFor}
+use Rattle.script.specs.Session.{stepAt}
+use borrow.Author.Needs.{needs}
+use Rattle.script.proofs.session.read.Statement.{statement}
+use Rattle.script.proofs.session.read.Tie as tie
+
+read-line-requires : tie.Need-read-line-requires
+read-line-requires c κs = search needs
+
+returns : tie.Need-returns
+unfolding stepAt
+returns c = rw (eq-eqb _ _ (c .before .if1 .taken)) (c .read-line .ensures)
+
+returns-2 : tie.Need-returns-2
+unfolding stepAt readingFor
+returns-2 c = rw (ne-eqb _ _ (c .if1 .left))
+
+pub read-spec : {M : Type 1} → statement M
+read-spec = tie.close (tie.spec read-line-requires returns returns-2)
