@@ -2,12 +2,14 @@
 //!
 //!     bench --steps
 //!     bench --lines PROGRAM PLAIN LEAN FOLDER
+//!     bench --instructions
 //!     bench --places
 //!
 //! Each prints one table. All sides are given the same steps from a fresh state. A list of steps is timed as a whole, many times
 //! over, and the quickest time counts: what disturbs a run only makes it longer. With `--lines` programs are timed on
-//! the same scripts, which are written to a folder.
+//! the same scripts, which are written to a folder. `--instructions` starts itself under callgrind, with `--repeat`.
 
+mod instructions;
 mod lines;
 mod linked;
 mod loads;
@@ -24,7 +26,9 @@ fn main() -> io::Result<()> {
         ["--lines", program, plain, lean, folder] => {
             lines::table([program, plain, lean], Path::new(folder))
         }
+        ["--instructions"] => instructions::table(),
+        ["--repeat", what, load, times] => Ok(instructions::repeat(what, load, times)),
         ["--places"] => Ok(times::places()),
-        _ => Err(Error::other("one of --steps, --lines, --places")),
+        _ => Err(Error::other("one of --steps, --lines, --instructions, --places")),
     }
 }
