@@ -3,12 +3,14 @@
 //!     bench --steps
 //!     bench --lines PROGRAM PLAIN LEAN FOLDER
 //!     bench --instructions
+//!     bench --stack
 //!     bench --places
 //!
 //! Each prints one table. All sides are given the same steps from a fresh state. A list of steps is timed as a whole, many times
 //! over, and the quickest time counts: what disturbs a run only makes it longer. With `--lines` programs are timed on
 //! the same scripts, which are written to a folder. `--instructions` starts itself under callgrind, with `--repeat`.
 
+mod depth;
 mod instructions;
 mod lines;
 mod linked;
@@ -28,7 +30,8 @@ fn main() -> io::Result<()> {
         }
         ["--instructions"] => instructions::table(),
         ["--repeat", what, load, times] => Ok(instructions::repeat(what, load, times)),
+        ["--stack"] => Ok(depth::table()),
         ["--places"] => Ok(times::places()),
-        _ => Err(Error::other("one of --steps, --lines, --instructions, --places")),
+        _ => Err(Error::other("one of --steps, --lines, --instructions, --stack, --places")),
     }
 }
