@@ -1,4 +1,4 @@
-//! Loads: lists of steps that both implementations are given.
+//! Loads: lists of steps that all sides are given.
 
 use outside::kernel::{State, Step, FOREVER};
 use outside::random::{self, Random};
