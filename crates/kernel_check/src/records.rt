@@ -4,7 +4,6 @@ use record::Mutexes;
 use record::SEMAPHORES;
 use record::Semaphores;
 use record::State;
-use record::TASK_PLACES;
 use record::TASKS;
 use record::Tasks;
 use task_lists::TaskList;
@@ -37,12 +36,7 @@ fn same_words(a: [u32; TASKS], b: [u32; TASKS]) -> bool {
 }
 
 fn same_bytes(a: [u8; TASKS], b: [u8; TASKS]) -> bool {
-    for i in 0..TASKS {
-        if a[i] != b[i] {
-            return false;
-        }
-    }
-    true
+    sound_places::same(&a, &b)
 }
 
 fn same_list(a: TaskList, b: TaskList) -> bool {
