@@ -2,25 +2,23 @@
 use mathlib.Core.Path.{_≡_, refl, ap, sym, _∙_}
 use mathlib.Core.List.{List, [], _∷_, _++_, append-nil}
 use mathlib.Core.Bool.{Bool, true, false, cond}
-use mathlib.Core.Logic.{inl, inr}
 use mathlib.Core.Option.{none, some}
-use Prim.Native.Nat.{ℕ, suc, _+_, _-_, _≤_, _<_}
+use Prim.Native.Nat.{ℕ, zero, suc, _+_, _-_, _≤_, _<_}
 use native.Mathlib.Omega.{arith}
 use native.Mathlib.Numerals.{add-one}
-use borrow.Author.Tests.{le-leb, lt-leb}
+use borrow.Author.Tests.{le-leb, lt-leb, lt-ltb, eq-eqb, ne-eqb}
 use lib.Dec.{leb, eqb}
 use lib.ListN.{length, getD, set, take, drop, length-take, replicate}
 use lib.Seq.{drop-cons, take-suc-set, drop-set-lt, append-snoc, set-split}
-use Rattle.lists.specs.Test.{_and_}
-use Rattle.lists.specs.TestLaws.{which, by-test}
+use Rattle.lists.specs.TestLaws.{by-test}
 use Rattle.lists.specs.Table.{pad}
 use Rattle.lists.specs.Order.{keep, firstAt, firstFrom, orElse}
 use Rattle.lists.specs.OrderLaws.{keep-append}
 use Rattle.rules.specs.Sizes.{levels}
-use Rattle.task_lists.specs.TaskList.{places, noId, items, taskListOf, keyOf, pushed, placeOf, idOf, insertedIf, insertedFlagged}
-use Rattle.task_lists.specs.TaskListLaws.{push-taskListOf}
+use Rattle.task_lists.specs.TaskList.{places, noId, items, taskListOf, keyOf, pushed, placeOf, idOf, inserted, insertedIf, insertedFlagged, waitsFor, bestOf}
+use Rattle.task_lists.specs.TaskListLaws.{items-taskListOf, push-taskListOf}
 use Rattle.task_lists.specs.declared.TaskList.{TaskList}
-use Rattle.task_lists.specs.ItemLaws.{items-step, items-end, items-take}
+use Rattle.task_lists.specs.ItemLaws.{items-step, items-end, items-take, items-few}
 
 -- an upward shift from place i on, v the one that is carried
 pub open-step : (a : List ℕ) (n i v : ℕ) → i < n → n < length a
@@ -52,24 +50,22 @@ module _ (q : TaskList) where
   unfolding placeOf
   place-end keys t i h = rw (items-end q i h)
 
-  -- the first of key k among those that pass
-  first-step : (f : ℕ → ℕ) (p : ℕ → Bool) (k i : ℕ) → i < length (items q)
-      → firstAt f k (keep p (drop i (items q)))
-      ≡ cond (p (getD (q .ids) i 0) and eqb (f (getD (q .ids) i 0)) k) (some (getD (q .ids) i 0)) (firstAt f k (keep p (drop (i + 1) (items q))))
-  unfolding firstAt keep _and_
-  first-step f p k i h = rw (items-step q i h) (elim (which (p (getD (q .ids) i 0))) [ inl e ↦ rw e refl | inr e ↦ rw e refl ])
+  -- the first of key k
+  first-step : (f : ℕ → ℕ) (k i : ℕ) → i < length (items q)
+      → firstAt f k (drop i (items q)) ≡ cond (eqb (f (getD (q .ids) i 0)) k) (some (getD (q .ids) i 0)) (firstAt f k (drop (i + 1) (items q)))
+  unfolding firstAt
+  first-step f k i h = rw (items-step q i h)
 
-  pub first-hit : (f : ℕ → ℕ) (p : ℕ → Bool) (k i : ℕ) → i < length (items q) → p (getD (q .ids) i 0) and eqb (f (getD (q .ids) i 0)) k ≡ true
-      → firstAt f k (keep p (drop i (items q))) ≡ some (getD (q .ids) i 0)
-  first-hit f p k i h e = first-step f p k i h ∙ rw e
+  pub first-hit : (f : ℕ → ℕ) (k i : ℕ) → i < length (items q) → f (getD (q .ids) i 0) ≡ k → firstAt f k (drop i (items q)) ≡ some (getD (q .ids) i 0)
+  first-hit f k i h e = first-step f k i h ∙ rw (eq-eqb _ _ e)
 
-  pub first-miss : (f : ℕ → ℕ) (p : ℕ → Bool) (k i : ℕ) → i < length (items q) → p (getD (q .ids) i 0) and eqb (f (getD (q .ids) i 0)) k ≡ false
-      → firstAt f k (keep p (drop i (items q))) ≡ firstAt f k (keep p (drop (i + 1) (items q)))
-  first-miss f p k i h e = first-step f p k i h ∙ rw e
+  pub first-miss : (f : ℕ → ℕ) (k i : ℕ) → i < length (items q) → (f (getD (q .ids) i 0) ≡ k → ⊥)
+      → firstAt f k (drop i (items q)) ≡ firstAt f k (drop (i + 1) (items q))
+  first-miss f k i h e = first-step f k i h ∙ rw (ne-eqb _ _ e)
 
-  pub first-end : (f : ℕ → ℕ) (p : ℕ → Bool) (k i : ℕ) → length (items q) ≤ i → firstAt f k (keep p (drop i (items q))) ≡ none
-  unfolding firstAt keep
-  first-end f p k i h = rw (items-end q i h)
+  pub first-end : (f : ℕ → ℕ) (k i : ℕ) → length (items q) ≤ i → firstAt f k (drop i (items q)) ≡ none
+  unfolding firstAt
+  first-end f k i h = rw (items-end q i h)
 
 -- the levels from k on
 from-step : (f : ℕ → ℕ) (k : ℕ) (l : List ℕ) → k < levels
@@ -90,6 +86,22 @@ pub from-end : (f : ℕ → ℕ) (k : ℕ) (l : List ℕ) → levels ≤ k → i
 unfolding firstFrom idOf
 from-end f k l h = let e : levels - k ≡ 0 = omega arith in rw e
 
+-- among none, no level has a first
+from-nobody : (f : ℕ → ℕ) (n k : ℕ) → firstFrom f n k [] ≡ none
+unfolding firstFrom firstAt orElse
+from-nobody f zero k = refl
+from-nobody f (suc n) k = from-nobody f n (suc k)
+
+pub nobody : (q : TaskList) (f : ℕ → ℕ) → length (items q) ≡ 0 → idOf (firstFrom f levels 0 (items q)) ≡ noId
+unfolding idOf
+nobody q f e = rw (items-end q 0 (omega arith), from-nobody f levels 0)
+
+-- the best of the waiters is the best waiter
+pub best-of : (q w : TaskList) (kinds objects keys : List ℕ) (kind object : ℕ) → w ≡ taskListOf (keep (waitsFor kinds objects kind object) (items q))
+    → idOf (firstFrom (keyOf keys) levels 0 (items w)) ≡ bestOf q kinds objects keys kind object
+unfolding bestOf
+best-of q w kinds objects keys kind object e = ap (λ (l : List ℕ). idOf (firstFrom (keyOf keys) levels 0 l)) (ap items e ∙ items-taskListOf _)
+
 -- one more of those that are kept
 length-keep : (p : ℕ → Bool) (l : List ℕ) → length (keep p l) ≤ length l
 unfolding keep
@@ -100,20 +112,29 @@ pub keep-start : (q : TaskList) (p : ℕ → Bool) → record { ids = replicate 
 unfolding taskListOf pad keep
 keep-start q p = refl
 
-module _ (q : TaskList) (p : ℕ → Bool) (i : ℕ) (h : i < length (items q)) where
-  split : keep p (take (i + 1) (items q)) ≡ keep p (take i (items q)) ++ keep p (getD (q .ids) i 0 ∷ [])
-  split = ap (keep p) (items-take q i h) ∙ keep-append p (take i (items q)) (getD (q .ids) i 0 ∷ [])
+-- the ids written so far and their count are the list of those kept
+module _ (q : TaskList) (p : ℕ → Bool) (i : ℕ) (ids : List ℕ) (k : ℕ) (s : record { ids = ids; n = k } ≡ taskListOf (keep p (take i (items q)))) where
+  pub keep-room : k ≤ i
+  unfolding taskListOf
+  keep-room = let e : k ≡ length (keep p (take i (items q))) = ap (λ (r : TaskList). r .n) s in
+      omega (arith, length-keep p (take i (items q)), length-take i (items q))
 
-  pub keep-on : length (q .ids) ≡ places → p (getD (q .ids) i 0) ≡ true
-      → pushed (taskListOf (keep p (take i (items q)))) (getD (q .ids) i 0) ≡ taskListOf (keep p (take (i + 1) (items q)))
-  unfolding keep
-  keep-on g e =
-      push-taskListOf (keep p (take i (items q))) (getD (q .ids) i 0) (omega (arith, length-keep p (take i (items q)), length-take i (items q), length-take (q .n) (q .ids)))
-      ∙ ap taskListOf (sym (split ∙ rw e))
+  split : i < length (items q) → keep p (take (i + 1) (items q)) ≡ keep p (take i (items q)) ++ keep p (getD (q .ids) i 0 ∷ [])
+  split h = ap (keep p) (items-take q i h) ∙ keep-append p (take i (items q)) (getD (q .ids) i 0 ∷ [])
 
-  pub keep-off : p (getD (q .ids) i 0) ≡ false → taskListOf (keep p (take i (items q))) ≡ taskListOf (keep p (take (i + 1) (items q)))
+  pub keep-on : i < length (items q) → length (q .ids) ≡ places → p (getD (q .ids) i 0) ≡ true
+      → record { ids = set ids k (getD (q .ids) i 0); n = k + 1 } ≡ taskListOf (keep p (take (i + 1) (items q)))
+  unfolding keep pushed
+  keep-on h g e =
+      let few : k < places = omega (arith, keep-room, items-few q g) in
+      let room : length (keep p (take i (items q))) < places = omega (arith, length-keep p (take i (items q)), length-take i (items q), items-few q g) in
+      rw (lt-ltb k places few) at (ap (λ (r : TaskList). pushed r (getD (q .ids) i 0)) s)
+      ∙ push-taskListOf (keep p (take i (items q))) (getD (q .ids) i 0) room
+      ∙ ap taskListOf (sym (split h ∙ rw e))
+
+  pub keep-off : i < length (items q) → p (getD (q .ids) i 0) ≡ false → record { ids = ids; n = k } ≡ taskListOf (keep p (take (i + 1) (items q)))
   unfolding keep
-  keep-off e = ap taskListOf (sym (split ∙ rw (e, append-nil (keep p (take i (items q))))))
+  keep-off h e = s ∙ ap taskListOf (sym (split h ∙ rw (e, append-nil (keep p (take i (items q))))))
 
 -- one more task that is tried
 module _ (q : TaskList) (keys flags : List ℕ) where
@@ -121,6 +142,12 @@ module _ (q : TaskList) (keys flags : List ℕ) where
   unfolding insertedFlagged
   flagged-start = refl
 
-  pub flagged-step : (i : ℕ) → insertedFlagged q keys flags (i + 1) ≡ insertedIf (insertedFlagged q keys flags i) keys flags i
+  step : (i : ℕ) → insertedFlagged q keys flags (i + 1) ≡ insertedIf (insertedFlagged q keys flags i) keys flags i
   unfolding insertedFlagged
-  flagged-step i = rw add-one refl
+  step i = ap (insertedFlagged q keys flags) (add-one i)
+
+  pub flagged-on : (i : ℕ) → keyOf flags i ≡ 1 → insertedFlagged q keys flags (i + 1) ≡ inserted (insertedFlagged q keys flags i) keys (keyOf keys i + 1) i
+  flagged-on i e = step i ∙ rw (eq-eqb _ _ e)
+
+  pub flagged-off : (i : ℕ) → (keyOf flags i ≡ 1 → ⊥) → insertedFlagged q keys flags (i + 1) ≡ insertedFlagged q keys flags i
+  flagged-off i e = step i ∙ rw (ne-eqb _ _ e)

@@ -23,6 +23,10 @@ noId = 255
 abbrev pub items : TaskList → List ℕ
 items q = take (q .n) (q .ids)
 
+-- the list of the first n ids of a table
+abbrev pub firstIds : List ℕ → ℕ → TaskList
+firstIds ids n = record { ids = ids; n = n }
+
 -- the list in which l stands, its unused places empty
 unfoldable pub taskListOf : List ℕ → TaskList
 taskListOf l = record { ids = pad places noId l; n = length l }
@@ -62,9 +66,13 @@ unfoldable pub placeOf : List ℕ → ℕ → List ℕ → ℕ
 placeOf keys t [] = 0
 placeOf keys t (y ∷ l) = cond (leb t (keyOf keys y)) 0 (suc (placeOf keys t l))
 
--- x at place p, and what stood there and behind it one place on; a full list stays
+-- x at place p of a table whose first n places are used, and what stood there and behind it one place on
+abbrev pub opened : List ℕ → ℕ → ℕ → ℕ → List ℕ
+opened ids n p x = (take p ids ++ (x ∷ take (n - p) (drop p ids))) ++ drop (n + 1) ids
+
+-- the same in a list; a full one stays
 unfoldable pub insertedAt : TaskList → ℕ → ℕ → TaskList
-insertedAt q p x = cond (ltb (q .n) places) (record { ids = (take p (q .ids) ++ (x ∷ take (q .n - p) (drop p (q .ids)))) ++ drop (q .n + 1) (q .ids); n = q .n + 1 }) q
+insertedAt q p x = cond (ltb (q .n) places) (firstIds (opened (q .ids) (q .n) p x) (q .n + 1)) q
 
 -- x before the first whose key is at least t
 unfoldable pub inserted : TaskList → List ℕ → ℕ → ℕ → TaskList

@@ -1,10 +1,9 @@
 // Lists of task ids: a table of sixteen places whose first `n` are used, the others holding NONE.
 ghost use mathlib.Core.Path.{_≡_};
-ghost use Prim.Native.Nat.{_≤_};
-ghost use lib.Dec.{eqb};
-ghost use lib.ListN.{length};
-ghost use Rattle.lists.specs.Test.{_and_};
-ghost use Rattle.task_lists.specs.TaskList.{items, keyOf, pushed, placeOf, inserted, insertedAt, kept, insertedIf, insertedFlagged, bestOf, waitsFor};
+ghost use Prim.Native.Nat.{_≤_, _<_};
+ghost use lib.ListN.{length, take};
+ghost use Rattle.lists.specs.Order.{keep};
+ghost use Rattle.task_lists.specs.TaskList.{places, items, firstIds, keyOf, pushed, placeOf, opened, inserted, kept, taskListOf, insertedFlagged, bestOf, waitsFor};
 
 // How many places a list has.
 pub const PLACES: usize = 16;
@@ -24,6 +23,14 @@ pub struct TaskList {
 // A task's number in a table; 0 for an id that has no place there.
 pub fn key_of(keys: [u8; PLACES], id: u8) -> u8
     ensures { λ r. ⌜ r ≡ keyOf keys id ⌝ }
+{
+    key_in(&keys, id)
+}
+
+// The same in a table that is lent, so that a loop moves no table.
+fn key_in(keys: &[u8; PLACES], id: u8) -> u8
+    requires { ⌜ length (now keys) ≡ places ⌝ }
+    ensures { λ r. ⌜ r ≡ keyOf (now (keys .entry)) id ⌝ }
 {
     let i = id as usize;
     if i < PLACES {
@@ -64,10 +71,18 @@ pub fn place_of(q: TaskList, keys: [u8; PLACES], t: u16) -> usize
     ensures { λ r. ⌜ r ≡ placeOf keys t (items q) ⌝ }
 {
     let n = len(q);
+    let ids = q.ids;
+    place_in(&ids, n, &keys, t)
+}
+
+// The same in a table whose first `n` places are used.
+fn place_in(ids: &[u8; PLACES], n: usize, keys: &[u8; PLACES], t: u16) -> usize
+    requires { ⌜ (n ≤ places) × (length (now ids) ≡ places) × (length (now keys) ≡ places) ⌝ }
+    ensures { λ r. ⌜ r ≡ placeOf (now (keys .entry)) t (take n (now (ids .entry))) ⌝ }
+{
     let mut i = 0;
     while i < n {
-        let id = q.ids[i];
-        let key = key_of(keys, id) as u16;
+        let key = key_in(keys, ids[i]) as u16;
         if t <= key {
             return i;
         }
@@ -76,16 +91,11 @@ pub fn place_of(q: TaskList, keys: [u8; PLACES], t: u16) -> usize
     i
 }
 
-// The list with `id` at place `p` and what stood from there on one place on; a full one stays.
-fn insert_at(q: TaskList, p: usize, id: u8) -> TaskList
-    requires { ⌜ p ≤ length (items q) ⌝ }
-    ensures { λ r. ⌜ r ≡ insertedAt q p id ⌝ }
+// `id` at place `p` of a table whose first `n` places are used, and what stood from there on one place on.
+fn open_at(ids: &mut [u8; PLACES], p: usize, n: usize, id: u8)
+    requires { ⌜ (p ≤ n) × (n < places) × (length (now ids) ≡ places) ⌝ }
+    ensures { λ _. ⌜ (length (now (ids .exit)) ≡ places) × (now (ids .exit) ≡ opened (now (ids .entry)) n p id) ⌝ }
 {
-    let n = q.n as usize;
-    if PLACES <= n {
-        return q;
-    }
-    let mut ids = q.ids;
     let mut v = id;
     for i in p..n {
         let y = ids[i];
@@ -93,58 +103,65 @@ fn insert_at(q: TaskList, p: usize, id: u8) -> TaskList
         v = y;
     }
     ids[n] = v;
-    TaskList {
-        ids: ids,
-        n: q.n + 1,
+}
+
+// `id` before the first whose key is at least `t`, in a table whose first `used` places are used, and how many are used then; a full one stays.
+fn insert_in(ids: &mut [u8; PLACES], used: u8, keys: &[u8; PLACES], t: u16, id: u8) -> u8
+    requires { ⌜ (length (now ids) ≡ places) × (length (now keys) ≡ places) ⌝ }
+    ensures { λ r. ⌜ (length (now (ids .exit)) ≡ places)
+        × (firstIds (now (ids .exit)) r ≡ inserted (firstIds (now (ids .entry)) used) (now (keys .entry)) t id) ⌝ }
+{
+    let n = used as usize;
+    if PLACES <= n {
+        return used;
     }
+    let p = place_in(ids, n, keys, t);
+    open_at(ids, p, n, id);
+    used + 1
 }
 
 // The list with `id` before the first whose key is at least `t`; a full one stays.
 pub fn insert(q: TaskList, keys: [u8; PLACES], t: u16, id: u8) -> TaskList
     ensures { λ r. ⌜ r ≡ inserted q keys t id ⌝ }
 {
-    let p = place_of(q, keys, t);
-    insert_at(q, p, id)
+    let mut ids = q.ids;
+    let n = insert_in(&mut ids, q.n, &keys, t, id);
+    TaskList { ids: ids, n: n }
 }
 
-// The list of those whose flag is `v`, in their order.
+// The list of those whose flag is `v`, in their order. The kept ids go into a table of their own, so that no list is moved in the loop.
 pub fn keep_flagged(q: TaskList, flags: [u8; PLACES], v: u8) -> TaskList
     ensures { λ r. ⌜ r ≡ kept q flags v ⌝ }
 {
     let n = len(q);
-    let mut r = TaskList {
-        ids: [NONE; PLACES],
-        n: 0,
-    };
+    let mut ids = [NONE; PLACES];
+    let mut k: usize = 0;
     for i in 0..n {
         let id = q.ids[i];
-        if key_of(flags, id) == v {
-            r = push(r, id);
+        if key_in(&flags, id) == v {
+            ids[k] = id;
+            k += 1;
         }
     }
-    r
-}
-
-// One task of `insert_flagged`.
-fn insert_if(q: TaskList, keys: [u8; PLACES], flags: [u8; PLACES], id: u8) -> TaskList
-    ensures { λ r. ⌜ r ≡ insertedIf q keys flags id ⌝ }
-{
-    if key_of(flags, id) == 1 {
-        let t = key_of(keys, id) as u16 + 1;
-        return insert(q, keys, t, id);
+    TaskList {
+        ids: ids,
+        n: k as u8,
     }
-    q
 }
 
-// The list with each of the first `n` tasks whose flag is 1, by id, at the tail of its key.
+// The list with each of the first `n` tasks whose flag is 1, by id, at the tail of its key. They go into one table in place, so that no list is moved in the loop.
 pub fn insert_flagged(q: TaskList, keys: [u8; PLACES], flags: [u8; PLACES], n: u8) -> TaskList
     ensures { λ r. ⌜ r ≡ insertedFlagged q keys flags n ⌝ }
 {
-    let mut r = q;
+    let mut ids = q.ids;
+    let mut k = q.n;
     for id in 0..n {
-        r = insert_if(r, keys, flags, id);
+        if key_in(&flags, id) == 1 {
+            let t = key_in(&keys, id) as u16 + 1;
+            k = insert_in(&mut ids, k, &keys, t, id);
+        }
     }
-    r
+    TaskList { ids: ids, n: k }
 }
 
 // The best waiter for an object: the first found going through the levels and, in a level, oldest wait first; NONE where nobody waits.
@@ -158,7 +175,11 @@ pub fn best_waiter(
 ) -> u8
     ensures { λ r. ⌜ r ≡ bestOf q kinds objects keys kind object ⌝ }
 {
-    let n = len(q);
+    let w = waiters_of(q, kinds, objects, kind, object);
+    let n = len(w);
+    if n == 0 {
+        return NONE;
+    }
     let mut l: u8 = 0;
     'levels: loop {
         if LEVELS <= l {
@@ -166,8 +187,8 @@ pub fn best_waiter(
         }
         let mut i: usize = 0;
         'waits: while i < n {
-            let id = q.ids[i];
-            if waits_at(id, kinds, objects, keys, kind, object, l) {
+            let id = w.ids[i];
+            if key_in(&keys, id) == l {
                 break 'levels id;
             }
             i += 1;
@@ -176,23 +197,39 @@ pub fn best_waiter(
     }
 }
 
-// Does the task wait for the object, at this level?
-fn waits_at(
-    id: u8,
+// The list of those that wait for the object, in their order, so that the levels are gone through over these only.
+fn waiters_of(
+    q: TaskList,
     kinds: [u8; PLACES],
     objects: [u8; PLACES],
-    keys: [u8; PLACES],
     kind: u8,
     object: u8,
-    l: u8,
-) -> bool
-    ensures { λ r. ⌜ r ≡ (waitsFor kinds objects kind object id and eqb (keyOf keys id) l) ⌝ }
+) -> TaskList
+    ensures { λ r. ⌜ r ≡ taskListOf (keep (waitsFor kinds objects kind object) (items q)) ⌝ }
 {
-    if key_of(kinds, id) != kind {
+    let n = len(q);
+    let mut ids = [NONE; PLACES];
+    let mut k: usize = 0;
+    for i in 0..n {
+        let id = q.ids[i];
+        if waits_for(id, &kinds, &objects, kind, object) {
+            ids[k] = id;
+            k += 1;
+        }
+    }
+    TaskList {
+        ids: ids,
+        n: k as u8,
+    }
+}
+
+// Does the task wait for the object?
+fn waits_for(id: u8, kinds: &[u8; PLACES], objects: &[u8; PLACES], kind: u8, object: u8) -> bool
+    requires { ⌜ (length (now kinds) ≡ places) × (length (now objects) ≡ places) ⌝ }
+    ensures { λ r. ⌜ r ≡ waitsFor (now (kinds .entry)) (now (objects .entry)) kind object id ⌝ }
+{
+    if key_in(kinds, id) != kind {
         return false;
     }
-    if key_of(objects, id) != object {
-        return false;
-    }
-    key_of(keys, id) == l
+    key_in(objects, id) == object
 }
