@@ -12,6 +12,8 @@ use denote.Laws.{Is}
 use denote.Struct.Declared.{row}
 use Rattle.rules.specs.Sizes.{wordSize}
 use Rattle.record.specs.declared.State.{State}
+use Rattle.record.specs.GoodRecord.{Typed}
+use borrow.Author.Needs.{needs}
 use Rattle.record.proofs.State as st
 
 -- each element of an array that is owned is a value of its type
@@ -29,3 +31,24 @@ due-word s vs g i =
       | yes h ↦ each-at _ _ (λ (v : ℕ). v) _ (s .tasks .due) (fd .0) i 0 h (fd .1 .1) .1 .1
       | no h ↦ rw (List·getD-eq-default (s .tasks .due) 0 {n = i} (omega arith)) (omega arith)
     ]
+
+-- what every record of this type has
+pub typed : (s : State) (vs : List Val) → Is (row st.the-type) s vs → Typed s
+typed s vs g = record {
+  due-length = search needs;
+  priority-length = search needs;
+  level-length = search needs;
+  outcome-length = search needs;
+  wait-length = search needs;
+  object-length = search needs;
+  timed-length = search needs;
+  kind-length = search needs;
+  owner-length = search needs;
+  count-length = search needs;
+  maximum-length = search needs;
+  ready-length = search needs;
+  waiting-length = search needs;
+  due-word = due-word s vs g;
+  clock-word = search needs;
+  hold-byte = search needs;
+}

@@ -1,6 +1,6 @@
 // The test of a record, phrase by phrase.
 ghost use mathlib.Core.Path.{_≡_};
-ghost use Rattle.checks.specs.Checks.{sizesIn, unusedIn, tasksIn, objectsIn, listsIn, placesIn, waitsIn, levelsIn, checks};
+ghost use Rattle.checks.specs.Checks.{sizesIn, unusedIn, tasksIn, objectsIn, listsIn, placesIn, waitsIn, levelsIn};
 ghost use Rattle.record.specs.SoundRecord.{soundOf};
 ghost use Rattle.record.specs.GoodRecord.{Typed};
 use record::MAX_MUTEXES;
@@ -13,14 +13,6 @@ use record::TASK_PLACES;
 use record::TASKS;
 use record::Tasks;
 use task_lists::TaskList;
-
-// Is the record sound? The clause `types` says nothing of the answer: it tells the caller's proof what every record of this type has.
-pub fn is_sound(s: State) -> bool
-    ensures answer { λ r. ⌜ r ≡ soundOf s ⌝ }
-    ensures types { λ r. ⌜ Typed s ⌝ }
-{
-    check(s)
-}
 
 // No more of each than there are places, and the running task is one of them.
 fn sizes_in(s: State) -> bool
@@ -165,9 +157,11 @@ fn levels_in<'a>(
     sound_places::same(level, &lent)
 }
 
-// All phrases. The sizes come first: they bound the walks along chains of waits.
-fn check(s: State) -> bool
-    ensures { λ r. ⌜ r ≡ checks s ⌝ }
+// Is the record sound? All phrases; the sizes come first, since they bound the walks along chains of waits. The clause `types` says nothing of the
+// answer: it tells the caller's proof what every record of this type has.
+pub fn is_sound(s: State) -> bool
+    ensures answer { λ r. ⌜ r ≡ soundOf s ⌝ }
+    ensures types { λ r. ⌜ Typed s ⌝ }
 {
     if !sizes_in(s) {
         return false;
