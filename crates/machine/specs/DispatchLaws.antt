@@ -6,51 +6,33 @@ use mathlib.Core.Logic.{inl, inr}
 use mathlib.Core.Option.{Option, none, some}
 use Prim.Native.Nat.{ℕ, suc, _+_, _≤_, _<_}
 use native.Mathlib.Omega.{arith}
-use native.Mathlib.Decide.{ℕ-discrete}
 use lib.Dec.{ltb, eqb}
-use lib.ListN.{length, replicate}
-use lib.Seq.{getD-set-same, getD-set-other}
-use borrow.Author.Tests.{lt-ltb, ne-eqb}
+use lib.ListN.{length}
+use borrow.Author.Tests.{ne-eqb}
 use Rattle.lists.specs.Test.{_and_}
-use Rattle.lists.specs.Count.{eqn, occ, below, opt}
-use Rattle.lists.specs.Order.{keep, insertHead}
+use Rattle.lists.specs.Count.{occ, below, opt}
+use Rattle.lists.specs.Order.{insertHead}
 use Rattle.lists.specs.Table.{pad}
 use Rattle.lists.specs.TestLaws.{which, true-and, false-and}
-use Rattle.lists.specs.CountLaws.{eqn-at, eqn-other, in-below, below-le, pigeonhole}
-use Rattle.lists.specs.OrderLaws.{keep-all}
+use Rattle.lists.specs.CountLaws.{eqn-at, in-below, below-le, pigeonhole}
 use Rattle.chains.specs.Chain.{on}
-use Rattle.lists.specs.TableLaws.{getD-fill}
 use Rattle.rules.specs.Sizes.{taskPlaces}
 use Rattle.rules.specs.Tables.{taskCount}
 use Rattle.rules.specs.Settle.{meet, dispatch}
 use Rattle.rules.specs.Invariant.{Facts, Places}
 use Rattle.task_lists.specs.TaskList.{places, noId, taskListOf, keyOf, inserted, idOf}
-use Rattle.task_lists.specs.TaskListLaws.{head-taskListOf, kept-taskListOf}
+use Rattle.task_lists.specs.TaskListLaws.{items-taskListOf, head-taskListOf}
 use Rattle.record.specs.Record.{packTasks, pack}
 use Rattle.record.specs.Reads.{firstId}
-use Rattle.machine.specs.Machine.{single, without, ran, displaced, dispatched}
+use Rattle.machine.specs.Machine.{restOf, ran, displaced, dispatched}
 use Rattle.record.specs.ReadLaws.{level-read}
 use Rattle.record.specs.declared.State.{State}  -- keep
 use Rattle.rules.specs.State.{State as Model, levelOf, placed}  -- keep
 
--- the flags that name one task
-pub single-at : (x y : ℕ) → x < taskPlaces → keyOf (single x) y ≡ eqn x y
-unfolding single
-single-at x y h = rw (lt-ltb x taskPlaces h) (elim (ℕ-discrete x y) [
-  | yes e ↦ rw (← e) (getD-set-same (replicate taskPlaces 0) x 1 0 h ∙ sym (eqn-at x x refl))
-  | no e ↦ getD-set-other (replicate taskPlaces 0) x y 1 0 (λ q. e (sym q)) ∙ getD-fill 0 taskPlaces y ∙ sym (eqn-other x y e)
-])
-
 -- the first leaves
-pub first-leaves : (x : ℕ) (l : List ℕ) → x < taskPlaces → occ x l ≡ 0 → without (taskListOf (x ∷ l)) x ≡ taskListOf l
-unfolding keep
-first-leaves x l h e = kept-taskListOf (single x) 0 (x ∷ l) ∙ ap taskListOf (rw (off x (eqn-at x x refl)) (keep-all (λ y. eqb (keyOf (single x) y) 0) l on))
-  where
-    off : (y : ℕ) → eqn x y ≡ 1 → eqb (keyOf (single x) y) 0 ≡ false
-    off y q = rw (single-at x y h, q) refl
-
-    on : (y : ℕ) → 1 ≤ occ y l → eqb (keyOf (single x) y) 0 ≡ true
-    on y m = rw (single-at x y h, eqn-other x y (λ q. omega (arith, e, ap (λ z. occ z l) q))) refl
+first-leaves : (x : ℕ) (l : List ℕ) → restOf (taskListOf (x ∷ l)) ≡ taskListOf l
+unfolding restOf
+first-leaves x l = rw (items-taskListOf (x ∷ l)) refl
 
 -- what the code does in each case
 module _ (k : State) (on : eqb (k .started) 0 ≡ false) where
@@ -59,7 +41,7 @@ module _ (k : State) (on : eqb (k .started) 0 ≡ false) where
   case-empty e = rw (on, e) refl
 
   module _ (some-ready : eqb (k .ready .n) 0 ≡ false) where
-    case-idle : eqb (k .running) noId ≡ true → dispatched k ≡ ran k (firstId (k .ready)) (without (k .ready) (firstId (k .ready)))
+    case-idle : eqb (k .running) noId ≡ true → dispatched k ≡ ran k (firstId (k .ready)) (restOf (k .ready))
     unfolding dispatched
     case-idle e = rw (on, some-ready, e) refl
 
@@ -72,8 +54,8 @@ module _ (k : State) (on : eqb (k .started) 0 ≡ false) where
       unfolding dispatched
       case-stays e f = rw (on, some-ready, runs, e, f) refl
 
-      case-displaced : eqb (k .hold) 0 ≡ true → ltb (keyOf (k .tasks .level) (firstId (k .ready))) (keyOf (k .tasks .level) (k .running)) ≡ true
-          → dispatched k ≡ displaced k (k .running) (firstId (k .ready))
+      pub case-displaced : eqb (k .hold) 0 ≡ true → ltb (keyOf (k .tasks .level) (firstId (k .ready))) (keyOf (k .tasks .level) (k .running)) ≡ true
+          → dispatched k ≡ ran k (firstId (k .ready)) (displaced (k .ready) (k .tasks .level) (k .running))
       unfolding dispatched
       case-displaced e f = rw (on, some-ready, runs, e, f) refl
 
@@ -96,11 +78,6 @@ module _ (s : Model) (F : Facts (s .tables)) (on : s .started ≡ true) where
   at-most : (r : Option ℕ) (l : List ℕ) → Places (placed s r l) [] → (i : ℕ) → occ i l + occ i (opt r) ≤ below i (taskCount (s .tables))
   at-most r l P i = omega (arith, P i)
 
-  first-in : (r : Option ℕ) (x : ℕ) (l : List ℕ) → Places (placed s r (x ∷ l)) [] → (x < taskPlaces) × (occ x l ≡ 0)
-  unfolding occ
-  first-in r x l P = let b = at-most r (x ∷ l) P x in
-      (omega (arith, F .few-tasks, in-below x (taskCount (s .tables)) (omega (arith, eqn-at x x refl))), omega (arith, eqn-at x x refl, below-le x (taskCount (s .tables))))
-
   room : (r : Option ℕ) (x : ℕ) (l : List ℕ) → Places (placed s r (x ∷ l)) [] → length l < places
   room r x l P = omega (
     arith,
@@ -114,21 +91,20 @@ module _ (s : Model) (F : Facts (s .tables)) (on : s .started ≡ true) where
   runner-in r l P = omega (arith, F .few-tasks, in-below r (taskCount (s .tables)) (omega (arith, at-most (some r) l P r, eqn-at r r refl)))
 
   displaced-list : (r x : ℕ) (l : List ℕ) → Places (placed s (some r) (x ∷ l)) []
-      → inserted (without (taskListOf (x ∷ l)) x) ((packTasks (s .tables) (s .clock)) .level) (keyOf ((packTasks (s .tables) (s .clock)) .level) r) r ≡ taskListOf (insertHead (levelOf s) r l)
+      → displaced (taskListOf (x ∷ l)) ((packTasks (s .tables) (s .clock)) .level) r ≡ taskListOf (insertHead (levelOf s) r l)
+  unfolding displaced
   displaced-list r x l P =
-      let h = first-in (some r) x l P in
       let lv = (packTasks (s .tables) (s .clock)) .level in
-      ap (λ q. inserted q lv (keyOf lv r) r) (first-leaves x l (h .0) (h .1))
+      ap (λ q. inserted q lv (keyOf lv r) r) (first-leaves x l)
       ∙ head-taskListOf lv r l (room (some r) x l P)
       ∙ ap (λ f. taskListOf (insertHead f r l)) (fun-ext (level-read (s .tables) (s .clock)))
 
   meet-pack : (r : Option ℕ) (l : List ℕ) → Places (placed s r l) [] → dispatched (pack (placed s r l)) ≡ pack (meet s r l)
-  unfolding meet pack idOf taskListOf pad displaced _and_
+  unfolding meet pack idOf taskListOf pad _and_
   meet-pack r [] P = case-empty (pack (placed s r [])) (up r []) refl
   meet-pack none (x ∷ l) P =
-      let h = first-in none x l P in
       case-idle (pack (placed s none (x ∷ l))) (up none (x ∷ l)) (ne-eqb (suc (length l)) 0 (λ e. omega arith)) refl
-      ∙ ap (λ q. ran (pack (placed s none (x ∷ l))) x q) (first-leaves x l (h .0) (h .1))
+      ∙ ap (λ q. ran (pack (placed s none (x ∷ l))) x q) (first-leaves x l)
   meet-pack (some r) (x ∷ l) P = elim (which (eqb (s .hold) 0)) [
     | inl e ↦ elim (which (ltb (levelOf s x) (levelOf s r))) [
       | inl f ↦ case-displaced k (up (some r) (x ∷ l)) many runs e (test ∙ f) ∙ ap (λ q. ran k x q) (displaced-list r x l P) ∙ ap pack (sym (meet-displaces s r x l (true-and _ _ e f)))

@@ -17,7 +17,7 @@ use Rattle.lists.specs.Table.{pad}
 use Rattle.lists.specs.TestLaws.{which, by-test}
 use Rattle.lists.specs.CountLaws.{in-below, below-le, pigeonhole}
 use Rattle.lists.specs.OrderLaws.{occ-kept, occ-dropped}
-use Rattle.lists.specs.TableLaws.{length-edit, getD-edit, length-pad, pad-set, getD-pad}
+use Rattle.lists.specs.TableLaws.{length-edit, getD-edit, pad-set, getD-pad}
 use Rattle.rules.specs.Sizes.{taskPlaces, forever, pending, onTime}
 use Rattle.rules.specs.Step.{level, outcome}
 use Rattle.rules.specs.Effect.{beginWait, endWaits, ended, due}
@@ -31,10 +31,10 @@ use Rattle.task_lists.specs.TaskList.{noId, taskListOf, keyOf, pushed, kept, id
 use Rattle.task_lists.specs.TaskListLaws.{push-taskListOf, kept-taskListOf}
 use Rattle.record.specs.Record.{leftCode, kindCode, objectCode, timedCode, dueCode, packTasks, packMutexes, packSemaphores, pack}
 use Rattle.record.specs.Setters.{putTasks, putLevel}
-use Rattle.machine.specs.Machine.{waitBegun, endedWhere, woke, timedFor, dueFor, blockedOn}
+use Rattle.machine.specs.Machine.{waitBegun, putFlagged, outcomeOn, endedWhere, woke, timedFor, dueFor, blockedOn}
 use Rattle.record.specs.PackLaws.{levelColumn, packWith}
 use Rattle.record.specs.ColumnLaws.{chosen, map-set, wait-code}
-use Rattle.machine.specs.FlagLaws.{Flags, flag-one, flag-zero, setWhere, set-column, leftOutcome, ended-columns}
+use Rattle.machine.specs.FlagLaws.{Flags, flag-one, flag-zero, flagged-column}
 use Rattle.record.specs.declared.Tasks.{Tasks}  -- keep
 use Rattle.record.specs.Setters.{putWaiting, putClock, putMutexes, putSemaphores, putRunning}  -- keep
 use Rattle.rules.specs.State.{State as Model, levelOf, placed, withTables, withClock}  -- keep
@@ -64,9 +64,8 @@ module _ (t : Tables) (F : Facts t) (p : ℕ → Bool) (named : (i : ℕ) → p 
     -- a column of codes
     module _ (out : ℕ → ℕ) where
       ended-code : (f : Option Wait → ℕ) → f none ≡ 0
-          → setWhere (λ i. eqb (keyOf flags i) 1) (λ i. 0) (pad taskPlaces 0 (map f (t .tasks .waits))) taskPlaces ≡ pad taskPlaces 0 (map f ((endWaits t p out) .tasks .waits))
-      ended-code f e = set-column (λ i. eqb (keyOf flags i) 1) (λ i. 0) (pad taskPlaces 0 (map f (t .tasks .waits))) (map f ((endWaits t p out) .tasks .waits))
-          (length-pad taskPlaces 0 (map f (t .tasks .waits)) (omega (arith, length-map (t .tasks .waits) f, F .wait-column, F .few-tasks)))
+          → putFlagged flags (λ i. 0) (pad taskPlaces 0 (map f (t .tasks .waits))) ≡ pad taskPlaces 0 (map f ((endWaits t p out) .tasks .waits))
+      ended-code f e = flagged-column flags (λ i. 0) (pad taskPlaces 0 (map f (t .tasks .waits))) (map f ((endWaits t p out) .tasks .waits))
           (omega (arith, length-map ((endWaits t p out) .tasks .waits) f, length-edit (λ i x. cond (p i) none x) (t .tasks .waits), F .wait-column, F .few-tasks))
           (λ i. ap (λ b. cond b 0 (getD (pad taskPlaces 0 (map f (t .tasks .waits))) i 0)) (flag-one flags p fl i)
           ∙ ap (cond (p i) 0) (wait-code t f i e)
@@ -74,9 +73,8 @@ module _ (t : Tables) (F : Facts t) (p : ℕ → Bool) (named : (i : ℕ) → p 
           ∙ ap f (sym (wait-ended t p out i)) ∙ sym (List·getD-map f ((endWaits t p out) .tasks .waits) i none) ∙ ap (getD (map f ((endWaits t p out) .tasks .waits)) i) e)
 
       module _ (v : ℕ → ℕ) (same : (i : ℕ) → p i ≡ true → v i ≡ out i) where
-        ended-outcome : setWhere (λ i. eqb (keyOf flags i) 1) v (pad taskPlaces 0 (t .tasks .outcomes)) taskPlaces ≡ pad taskPlaces 0 ((endWaits t p out) .tasks .outcomes)
-        ended-outcome = set-column (λ i. eqb (keyOf flags i) 1) v (pad taskPlaces 0 (t .tasks .outcomes)) ((endWaits t p out) .tasks .outcomes)
-            (length-pad taskPlaces 0 (t .tasks .outcomes) (omega (arith, F .outcome-column, F .few-tasks)))
+        ended-outcome : putFlagged flags v (pad taskPlaces 0 (t .tasks .outcomes)) ≡ pad taskPlaces 0 ((endWaits t p out) .tasks .outcomes)
+        ended-outcome = flagged-column flags v (pad taskPlaces 0 (t .tasks .outcomes)) ((endWaits t p out) .tasks .outcomes)
             (omega (arith, length-edit (λ i x. cond (p i) (out i) x) (t .tasks .outcomes), F .outcome-column, F .few-tasks))
             (λ i. ap (λ b. cond b (v i) (getD (pad taskPlaces 0 (t .tasks .outcomes)) i 0)) (flag-one flags p fl i)
             ∙ ap (cond (p i) (v i)) (getD-pad taskPlaces 0 (t .tasks .outcomes) i)
@@ -93,11 +91,10 @@ module _ (t : Tables) (F : Facts t) (p : ℕ → Bool) (named : (i : ℕ) → p 
             ]
 
       module _ (c slept other : ℕ) (same : (i : ℕ) → p i ≡ true → cond (eqb (kindCode (waitOf t i)) onTime) slept other ≡ out i) where
-        pub tasks-ended : endedWhere (packTasks t c) flags slept other taskPlaces ≡ putLevel (packTasks (endWaits t p out) c) (levelColumn t)
-        unfolding packTasks levelColumn kindCode objectCode timedCode dueCode
-        tasks-ended = ended-columns (packTasks t c) flags slept other taskPlaces (omega arith)
-            ∙ same-columns (packTasks t c) (ended-code (dueCode c) refl)
-            (ended-outcome (leftOutcome (packTasks t c) slept other) (λ i e. ap (λ z. cond (eqb z onTime) slept other) (wait-code t kindCode i refl) ∙ same i e))
+        pub tasks-ended : endedWhere (packTasks t c) flags slept other ≡ putLevel (packTasks (endWaits t p out) c) (levelColumn t)
+        unfolding endedWhere outcomeOn packTasks levelColumn kindCode objectCode timedCode dueCode
+        tasks-ended = same-columns (packTasks t c) (ended-code (dueCode c) refl)
+            (ended-outcome (λ i. outcomeOn (keyOf ((packTasks t c) .wait) i) slept other) (λ i e. ap (λ z. cond (eqb z onTime) slept other) (wait-code t kindCode i refl) ∙ same i e))
             (ended-code kindCode refl) (ended-code objectCode refl) (ended-code timedCode refl)
 
 pub woke-pack : (s : Model) → Facts (s .tables) → (p : ℕ → Bool) → ((i : ℕ) → p i ≡ true → waitCount (waitOf (s .tables) i) ≡ 1) → (flags : List ℕ) → Flags flags p

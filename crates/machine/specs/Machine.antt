@@ -1,9 +1,9 @@
 -- The functions over the record that the steps are made of, case by case as the code goes. MachineLaws shows them, on a sound record, equal to the packed rules.
 use mathlib.Core.List.{List}
 use mathlib.Core.Bool.{Bool, true, cond, not}
-use Prim.Native.Nat.{ℕ, zero, suc, _+_, _-_}
+use Prim.Native.Nat.{ℕ, _+_, _-_}
 use lib.Dec.{ltb, leb, eqb}
-use lib.ListN.{length, getD, set, replicate}
+use lib.ListN.{length, getD, set, drop, replicate}
 use Rattle.lists.specs.Test.{allb}
 use Rattle.lists.specs.Count.{member}
 use Rattle.lists.specs.Order.{before}
@@ -11,7 +11,7 @@ use Rattle.lists.specs.Table.{filled}
 use Rattle.rules.specs.Sizes.{maxTasks, taskPlaces, maxMutexes, maxSemaphores, levels, kinds, maxHold, maxTicks, forever, granted, pending, timedOut, flushed, onMutex, onSemaphore, onTime}
 use Rattle.rules.specs.Step.{level, outcome}
 use Rattle.rules.specs.Effect.{due}
-use Rattle.task_lists.specs.TaskList.{noId, items, keyOf, pushed, inserted, kept, insertedFlagged, counted, bestOf}
+use Rattle.task_lists.specs.TaskList.{noId, items, taskListOf, keyOf, pushed, inserted, kept, insertedFlagged, counted, bestOf}
 use Rattle.walks.specs.Walk.{chainFrom}
 use Rattle.record.specs.Record.{ticksLeft, dueAt}
 use Rattle.record.specs.declared.State.{State}  -- keep
@@ -38,34 +38,45 @@ waitBegun t i kind object timed due = cond (ltb i taskPlaces) (record {
   n = t .n;
 }) t
 
-unfoldable pub waitEnded : Tasks → ℕ → ℕ → Tasks
-waitEnded t i out = cond (ltb i taskPlaces) (record {
-  due = set (t .due) i 0;
+-- a column in which v stands at the places whose flag is 1
+abbrev pub flaggedAt : List ℕ → (ℕ → ℕ) → List ℕ → ℕ → ℕ
+flaggedAt flags v l i = cond (eqb (keyOf flags i) 1) (v i) (keyOf l i)
+
+abbrev pub putFlagged : List ℕ → (ℕ → ℕ) → List ℕ → List ℕ
+putFlagged flags v l = filled taskPlaces (flaggedAt flags v l)
+
+-- the outcome that an ended wait of a kind leaves
+unfoldable pub outcomeOn : ℕ → ℕ → ℕ → ℕ
+outcomeOn kind slept other = cond (eqb kind onTime) slept other
+
+-- the waits of the flagged tasks ended
+unfoldable pub endedWhere : Tasks → List ℕ → ℕ → ℕ → Tasks
+endedWhere t flags slept other = record {
+  due = putFlagged flags (λ i. 0) (t .due);
   priority = t .priority;
   level = t .level;
-  outcome = set (t .outcome) i out;
-  wait = set (t .wait) i 0;
-  object = set (t .object) i 0;
-  timed = set (t .timed) i 0;
+  outcome = putFlagged flags (λ i. outcomeOn (keyOf (t .wait) i) slept other) (t .outcome);
+  wait = putFlagged flags (λ i. 0) (t .wait);
+  object = putFlagged flags (λ i. 0) (t .object);
+  timed = putFlagged flags (λ i. 0) (t .timed);
   n = t .n;
-}) t
-
-unfoldable pub endedIf : Tasks → List ℕ → ℕ → ℕ → ℕ → Tasks
-endedIf t flags slept other i = cond (eqb (keyOf flags i) 1) (cond (eqb (keyOf (t .wait) i) onTime) (waitEnded t i slept) (waitEnded t i other)) t
-
-unfoldable pub endedWhere : Tasks → List ℕ → ℕ → ℕ → ℕ → Tasks
-endedWhere t flags slept other zero = t
-endedWhere t flags slept other (suc i) = endedIf (endedWhere t flags slept other i) flags slept other i
+}
 
 -- flags that name tasks
 unfoldable pub single : ℕ → List ℕ
 single i = cond (ltb i taskPlaces) (set (replicate taskPlaces 0) i 1) (replicate taskPlaces 0)
 
-unfoldable pub dueFlag : Tasks → ℕ → ℕ → ℕ
-dueFlag t clock i = cond (eqb (getD (t .timed) i 0) 1) (cond (eqb (ticksLeft (getD (t .due) i 0) clock) 1) 1 0) 0
+unfoldable pub dueNow : ℕ → ℕ → ℕ → ℕ
+dueNow timed due clock = cond (eqb timed 1) (cond (eqb (ticksLeft due clock) 1) 1 0) 0
 
-unfoldable pub waiterFlag : Tasks → ℕ → ℕ → ℕ → ℕ
-waiterFlag t kind object i = cond (eqb (getD (t .wait) i 0) kind) (cond (eqb (getD (t .object) i 0) object) 1 0) 0
+abbrev pub dueFlag : Tasks → ℕ → ℕ → ℕ
+dueFlag t clock i = dueNow (getD (t .timed) i 0) (getD (t .due) i 0) clock
+
+unfoldable pub waitsOn : ℕ → ℕ → ℕ → ℕ → ℕ
+waitsOn wait at kind object = cond (eqb wait kind) (cond (eqb at object) 1 0) 0
+
+abbrev pub waiterFlag : Tasks → ℕ → ℕ → ℕ → ℕ
+waiterFlag t kind object i = waitsOn (getD (t .wait) i 0) (getD (t .object) i 0) kind object
 
 unfoldable pub differs : ℕ → ℕ → ℕ
 differs x y = cond (eqb x y) 0 1
@@ -85,37 +96,43 @@ anyFlag f = not (allb taskPlaces (λ i. not (eqb (getD f i 0) 1)))
 unfoldable pub movedOf : TaskList → List ℕ → List ℕ
 movedOf q changed = filled taskPlaces (bothFlag changed (counted (replicate taskPlaces 0) (items q)))
 
+-- those whose level changed go to the tail of their new level
+abbrev pub reordered : TaskList → List ℕ → List ℕ → ℕ → TaskList
+reordered q changed new n = insertedFlagged (kept q changed 0) new (movedOf q changed) n
+
 unfoldable pub resettled : TaskList → List ℕ → List ℕ → List ℕ → ℕ → TaskList
 resettled q old new woken n =
     let changed = filled taskPlaces (differFlag old new) in
-    insertedFlagged (insertedFlagged (kept q changed 0) new (movedOf q changed) n) new woken n
+    cond (anyFlag changed) (insertedFlagged (reordered q changed new n) new woken n) (insertedFlagged q new woken n)
 
 unfoldable pub settled : State → List ℕ → State
 settled k woken =
     let new = newLevels (k .tasks) (k .mutexes) in
     putReady (putTasks k (putLevel (k .tasks) new)) (resettled (k .ready) (k .tasks .level) new woken (k .tasks .n))
 
-abbrev pub without : TaskList → ℕ → TaskList
-without q x = kept q (single x) 0
+-- the list without its first
+unfoldable pub restOf : TaskList → TaskList
+restOf q = taskListOf (drop 1 (items q))
 
 abbrev pub ran : State → ℕ → TaskList → State
 ran k x q = putRunning (putReady k q) x
 
-unfoldable pub displaced : State → ℕ → ℕ → State
-displaced k r x = ran k x (inserted (without (k .ready) x) (k .tasks .level) (keyOf (k .tasks .level) r) r)
+-- the ready order when its first takes the place of r, which goes to the head of its level
+unfoldable pub displaced : TaskList → List ℕ → ℕ → TaskList
+displaced q keys r = inserted (restOf q) keys (keyOf keys r) r
 
 unfoldable pub dispatched : State → State
 dispatched k =
     cond (eqb (k .started) 0) k
     (cond (eqb (k .ready .n) 0) k
-    (cond (eqb (k .running) noId) (ran k (firstId (k .ready)) (without (k .ready) (firstId (k .ready))))
+    (cond (eqb (k .running) noId) (ran k (firstId (k .ready)) (restOf (k .ready)))
     (cond (eqb (k .hold) 0)
-    (cond (ltb (keyOf (k .tasks .level) (firstId (k .ready))) (keyOf (k .tasks .level) (k .running))) (displaced k (k .running) (firstId (k .ready))) k)
+    (cond (ltb (keyOf (k .tasks .level) (firstId (k .ready))) (keyOf (k .tasks .level) (k .running))) (ran k (firstId (k .ready)) (displaced (k .ready) (k .tasks .level) (k .running))) k)
     k)))
 
 -- the waits of the flagged tasks end
 unfoldable pub woke : State → List ℕ → ℕ → ℕ → State
-woke k flags slept other = putWaiting (putTasks k (endedWhere (k .tasks) flags slept other taskPlaces)) (kept (k .waiting) flags 0)
+woke k flags slept other = putWaiting (putTasks k (endedWhere (k .tasks) flags slept other)) (kept (k .waiting) flags 0)
 
 -- they become ready, no level having changed
 unfoldable pub lined : State → List ℕ → State

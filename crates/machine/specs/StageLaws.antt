@@ -1,19 +1,19 @@
 -- Settling a packed state: what the code makes of levels and ready order is the packing of what the rules make.
 use mathlib.Core.Path.{_≡_, refl, ap, sym, _∙_, fun-ext}
 use mathlib.Core.List.{List, [], _++_}
-use mathlib.Core.Bool.{Bool, false, not}
+use mathlib.Core.Bool.{Bool, true, false, not}
 use mathlib.Core.Logic.{inl, inr}
 use Prim.Native.Nat.{ℕ, zero, suc, _+_, _≤_, _<_}
 use native.Mathlib.Omega.{arith}
 use native.Mathlib.Decide.{ℕ-discrete, decLt}
 use lib.Dec.{ltb, eqb}
 use lib.ListN.{length, List·getD-eq-default, replicate, getD-replicate}
-use borrow.Author.Tests.{eqb-true, eq-eqb, ne-eqb}
+use borrow.Author.Tests.{not-false, eqb-true, eq-eqb, ne-eqb}
 use Rattle.lists.specs.Test.{_and_}
 use Rattle.lists.specs.Count.{occ, member, below}
 use Rattle.lists.specs.Order.{keep, byId, insertAll, Asc, before}
 use Rattle.lists.specs.Table.{pad, filled}
-use Rattle.lists.specs.TestLaws.{which, false-and}
+use Rattle.lists.specs.TestLaws.{which, by-test, false-and}
 use Rattle.lists.specs.CountLaws.{in-below, below-le, pigeonhole}
 use Rattle.lists.specs.OrderLaws.{insertAll-append, keep-all, asc-change, keep-ext, byId-ext, byId-none, keep-in, asc-keep, stable-append}
 use Rattle.lists.specs.TableLaws.{length-filled, getD-filled}
@@ -27,8 +27,9 @@ use Rattle.task_lists.specs.TaskList.{taskListOf, keyOf, insertedFlagged, count
 use Rattle.task_lists.specs.TaskListLaws.{items-taskListOf, length-insertAll, flagged-taskListOf, kept-taskListOf, getD-counted}
 use Rattle.record.specs.Record.{packTasks, pack}
 use Rattle.record.specs.Setters.{putTasks, putReady, putLevel}
-use Rattle.machine.specs.Machine.{differs, differFlag, bothOnes, bothFlag, movedOf, resettled, settled, lined}
+use Rattle.machine.specs.Machine.{differs, differFlag, bothOnes, bothFlag, anyFlag, movedOf, reordered, resettled, settled, lined}
 use Rattle.record.specs.PackLaws.{levelColumn, packWith}
+use Rattle.machine.specs.FlagLaws.{no-flag}
 use Rattle.record.specs.ReadLaws.{level-out, key-level, key-levels, length-levels, new-levels}
 use Rattle.record.specs.declared.State.{State}  -- keep
 use Rattle.rules.specs.State.{State as Model, levelOf}  -- keep
@@ -141,13 +142,37 @@ module _ (n : ℕ) (old new ready woken flags : List ℕ) (few : n ≤ taskPlace
   unfolding order
   sizes = omega (arith, settled-fits n (keyOf old) (keyOf new) ready woken fits, ap length order-is, length-insertAll (keyOf new) came (insertAll (keyOf new) moved stayed), length-insertAll (keyOf new) moved stayed)
 
-  resettled-list : resettled (taskListOf ready) old new flags n ≡ taskListOf (settledReady n (keyOf old) (keyOf new) ready woken)
-  unfolding resettled changes order
-  resettled-list =
+  reordered-list : insertedFlagged (reordered (taskListOf ready) changes new n) new flags n ≡ taskListOf order
+  unfolding order
+  reordered-list =
       rw (kept-taskListOf changes 0 ready, stayed-is)
       (ap (λ q. insertedFlagged q new flags n) (flagged-taskListOf new (movedOf (taskListOf ready) changes) n stayed (omega (arith, sizes, ap length moved-is)))
       ∙ rw moved-is (flagged-taskListOf new flags n (insertAll (keyOf new) moved stayed) (omega (arith, sizes, ap length came-is, length-insertAll (keyOf new) moved stayed))
       ∙ ap taskListOf (rw came-is (sym order-is))))
+
+  -- where no level changed, everyone stays and nobody moves
+  module _ (none : anyFlag changes ≡ false) where
+    unchanged : (i : ℕ) → same i ≡ true
+    unfolding same changes
+    unchanged i = not-false _ (sym (differ-1 (keyOf old i) (keyOf new i)) ∙ ap (λ z. eqb z 1) (sym (changes-at i)) ∙ no-flag changes (length-filled taskPlaces (differFlag old new)) none i)
+
+    all-stayed : stayed ≡ ready
+    unfolding stayed
+    all-stayed = keep-all same ready (λ y m. unchanged y)
+
+    none-moved : moved ≡ []
+    unfolding moved
+    none-moved = byId-none n _ (λ i. false-and _ _ (ap not (unchanged i)))
+
+    woken-list : insertedFlagged (taskListOf ready) new flags n ≡ taskListOf order
+    unfolding insertAll
+    woken-list =
+        flagged-taskListOf new flags n ready (omega (arith, sizes, ap length came-is, ap length all-stayed))
+        ∙ ap taskListOf (rw (came-is, order-is, none-moved, all-stayed) refl)
+
+  resettled-list : resettled (taskListOf ready) old new flags n ≡ taskListOf (settledReady n (keyOf old) (keyOf new) ready woken)
+  unfolding resettled changes order
+  resettled-list = by-test (λ q. q ≡ taskListOf order) (anyFlag changes) (λ e. reordered-list) woken-list
 
 -- where no level changed, only those that became ready move
 pub settled-level : (n : ℕ) (f : ℕ → ℕ) (ready woken : List ℕ) → Asc f ready → settledReady n f f ready woken ≡ insertAll f (byId n (λ i. member i woken)) ready

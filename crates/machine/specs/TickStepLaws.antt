@@ -4,14 +4,11 @@ use mathlib.Core.List.{List, [], _∷_, map}
 use mathlib.Core.Bool.{Bool, true, false, cond, not}
 use mathlib.Core.Logic.{inl, inr}
 use mathlib.Core.Option.{Option, none}
-use Prim.Native.Nat.{ℕ, suc, _+_, _%_, _≤_}
+use Prim.Native.Nat.{ℕ, suc, _+_, _%_}
 use native.Mathlib.Omega.{arith}
-use native.Mathlib.Decide.{decLt}
-use lib.Dec.{eqb}
-use lib.ListN.{length, getD, List·getD-eq-default, List·getD-map, length-map}
-use borrow.Author.Tests.{not-true, not-false}
+use lib.ListN.{length, getD, List·getD-map, length-map}
 use Rattle.lists.specs.Table.{edit, pad, filled}
-use Rattle.lists.specs.TestLaws.{which, by-test, all-true}
+use Rattle.lists.specs.TestLaws.{which, by-test}
 use Rattle.lists.specs.OrderLaws.{keep-all, keep-none}
 use Rattle.lists.specs.TableLaws.{length-filled}
 use Rattle.chains.specs.Chain.{on}
@@ -24,14 +21,13 @@ use Rattle.rules.specs.Sound.{waitCount}
 use Rattle.rules.specs.Invariant.{Facts, Inv}
 use Rattle.rules.specs.FactsLaws.{wait-ended, facts-end, facts-age}
 use Rattle.rules.specs.WaiterLaws.{due-waits, not-due, outcome-due, places-end}
-use Rattle.task_lists.specs.TaskList.{keyOf}
 use Rattle.record.specs.Record.{dueAt, kindCode, objectCode, timedCode, dueCode, packTasks, packMutexes, packSemaphores, pack}
 use Rattle.record.specs.StepRecord.{outFor}
 use Rattle.record.specs.Setters.{putLevel}
 use Rattle.machine.specs.Machine.{dueFlag, anyFlag, settled, dispatched, woke, answerIn, tickStep}
 use Rattle.record.specs.PackLaws.{levelColumn, packWith}
 use Rattle.record.specs.ColumnLaws.{chosen, skipped, pad-ext}
-use Rattle.machine.specs.FlagLaws.{Flags, flag-one}
+use Rattle.machine.specs.FlagLaws.{Flags, flag-one, no-flag}
 use Rattle.machine.specs.WaitLaws.{due-kind, aged-code, aged-kind, aged-object, aged-timed, due-flags}
 use Rattle.machine.specs.EffectLaws.{member-ended, woke-pack}
 use Rattle.machine.specs.ObjectLaws.{level-same, lends-age}
@@ -129,11 +125,7 @@ module _ (s : Model) (I : Inv s) where
 
   -- none is
   nobody-due : anyFlag flags ≡ false → (i : ℕ) → due (s .tables) i ≡ false
-  unfolding anyFlag
-  nobody-due e i = sym (flag-one flags (due (s .tables)) flags-due i) ∙ elim (decLt i taskPlaces) [
-    | yes h ↦ not-true (eqb (keyOf flags i) 1) (all-true taskPlaces (λ j. not (eqb (keyOf flags j) 1)) (not-false _ e) i h)
-    | no h ↦ (let q : length flags ≤ i = omega (arith, wide) in ap (λ x. eqb x 1) (List·getD-eq-default flags 0 q))
-  ]
+  nobody-due e i = sym (flag-one flags (due (s .tables)) flags-due i) ∙ no-flag flags wide e i
 
   still-finish : ((i : ℕ) → due (s .tables) i ≡ false) → putClock (pack s) (dueAt (s .clock) 1) ≡ pack (dispatch (settle (levelOf s) ((tickOf s) .state) ((tickOf s) .woken)))
   unfolding tickOf pack packTasks packWith levelColumn

@@ -23,7 +23,7 @@ use Rattle.walks.specs.Walk.{taskAt, nextIn, chainFrom}
 use Rattle.walks.specs.WalkLaws.{walk-ext}
 use Rattle.record.specs.Record.{ticksLeft, leftCode, kindCode, objectCode, timedCode, dueCode, packTasks, pack}
 use Rattle.record.specs.Reads.{ownerAt, nextAt}
-use Rattle.machine.specs.Machine.{dueFlag, waiterFlag, bestAt}
+use Rattle.machine.specs.Machine.{dueNow, dueFlag, waitsOn, waiterFlag, bestAt}
 use Rattle.record.specs.PackLaws.{ticks-back}
 use Rattle.record.specs.ReadLaws.{kind-read, object-read, timed-read, due-read, level-read, owner-read, owner-back, next-pack}
 use Rattle.machine.specs.FlagLaws.{Flags}
@@ -108,12 +108,12 @@ module _ (t : Tables) (F : Facts t) where
 
   module _ (c : ℕ) where
     pub waiter-flags : (a : Awaited) → Flags (filled taskPlaces (waiterFlag (packTasks t c) (awaitedKind a) (awaitedObject a))) (awaits t a)
-    unfolding waiterFlag waitIsFor
+    unfolding waitsOn waitIsFor
     waiter-flags a = flags-of (waiterFlag (packTasks t c) (awaitedKind a) (awaitedObject a)) (λ w. waitIsFor w a) refl (λ i.
         rw (kind-read t c i, object-read t c i) (two-tests _ _ ∙ ap bit (coded-wait (waitOf t i) a)))
 
     pub due-flags : c < wordSize → Flags (filled taskPlaces (dueFlag (packTasks t c) c)) (due t)
-    unfolding dueFlag isDue
+    unfolding dueNow isDue
     due-flags h = flags-of (dueFlag (packTasks t c) c) isDue refl (λ i. rw (timed-read t c i, due-read t c i) (due-code c (waitOf t i) h (F .timed i)))
 
 -- "the best waiter", over the packed tables

@@ -1,15 +1,13 @@
 // Waits in the table of tasks: they begin and end, flags name tasks by them, and one waiter is the best.
+mod columns;
+
 ghost use mathlib.Core.Path.{_≡_};
-ghost use Prim.Native.Nat.{_<_};
 ghost use Rattle.lists.specs.Table.{filled};
 ghost use Rattle.rules.specs.Sizes.{taskPlaces};
 ghost use Rattle.task_lists.specs.TaskList.{bestOf};
 ghost use Rattle.record.specs.Record.{dueAt};
-ghost use Rattle.machine.specs.Machine.{waitBegun, waitEnded, endedIf, endedWhere, single, dueFlag, waiterFlag, anyFlag};
-use record::NO_WAIT;
-use record::ON_TIME;
+ghost use Rattle.machine.specs.Machine.{waitBegun, endedWhere, single, dueNow, dueFlag, waitsOn, waiterFlag, anyFlag};
 use record::PENDING;
-use record::TASK_PLACES;
 use record::TASKS;
 use record::Tasks;
 use record::reads;
@@ -38,45 +36,26 @@ pub fn begin_wait(mut t: Tasks, i: u8, kind: u8, object: u8, timed: u8, due: u32
     t
 }
 
-// The wait of task `i` ends.
-fn end_wait(mut t: Tasks, i: u8, outcome: u8) -> Tasks
-    ensures { λ r. ⌜ r ≡ waitEnded t i outcome ⌝ }
-{
-    let j = i as usize;
-    if TASKS <= j {
-        return t;
-    }
-    t.wait[j] = NO_WAIT;
-    t.object[j] = 0;
-    t.timed[j] = 0;
-    t.due[j] = 0;
-    t.outcome[j] = outcome;
-    t
-}
-
-// One task of `end_where`.
-fn end_if(t: Tasks, flags: [u8; TASKS], slept: u8, other: u8, i: u8) -> Tasks
-    ensures { λ r. ⌜ r ≡ endedIf t flags slept other i ⌝ }
-{
-    if task_lists::key_of(flags, i) != 1 {
-        return t;
-    }
-    let kinds = t.wait;
-    if task_lists::key_of(kinds, i) == ON_TIME {
-        return end_wait(t, i, slept);
-    }
-    end_wait(t, i, other)
-}
-
 // The waits of the tasks whose flag is 1 end, sleeps with one outcome and other waits with another.
-pub fn end_where(t: Tasks, flags: [u8; TASKS], slept: u8, other: u8) -> Tasks
-    ensures { λ r. ⌜ r ≡ endedWhere t flags slept other taskPlaces ⌝ }
+pub fn end_where(mut t: Tasks, flags: [u8; TASKS], slept: u8, other: u8) -> Tasks
+    ensures { λ r. ⌜ r ≡ endedWhere t flags slept other ⌝ }
 {
-    let mut r = t;
-    for i in 0..TASK_PLACES {
-        r = end_if(r, flags, slept, other, i);
-    }
-    r
+    let outcome = t.outcome;
+    let kind = t.wait;
+    let object = t.object;
+    let timed = t.timed;
+    let due = t.due;
+    let left = columns::outcomes(outcome, &kind, &flags, slept, other);
+    let no_wait = columns::cleared(kind, &flags);
+    let no_object = columns::cleared(object, &flags);
+    let untimed = columns::cleared(timed, &flags);
+    let no_due = columns::times_cleared(due, &flags);
+    t.outcome = left;
+    t.wait = no_wait;
+    t.object = no_object;
+    t.timed = untimed;
+    t.due = no_due;
+    t
 }
 
 // The flag of task `i` alone.
@@ -91,15 +70,14 @@ pub fn only(i: u8) -> [u8; TASKS]
     f
 }
 
-// Has task `i` a timed wait with one tick left?
-fn due_flag(t: Tasks, clock: u32, i: usize) -> u8
-    requires { ⌜ i < taskPlaces ⌝ }
-    ensures { λ r. ⌜ r ≡ dueFlag t clock i ⌝ }
+// Is this a timed wait with one tick left?
+fn due_flag(timed: u8, due: u32, clock: u32) -> u8
+    ensures { λ r. ⌜ r ≡ dueNow timed due clock ⌝ }
 {
-    if t.timed[i] != 1 {
+    if timed != 1 {
         return 0;
     }
-    if reads::ticks_left(t.due[i], clock) == 1 {
+    if reads::ticks_left(due, clock) == 1 {
         return 1;
     }
     0
@@ -109,22 +87,23 @@ fn due_flag(t: Tasks, clock: u32, i: usize) -> u8
 pub fn due_flags(t: Tasks, clock: u32) -> [u8; TASKS]
     ensures { λ r. ⌜ r ≡ filled taskPlaces (dueFlag t clock) ⌝ }
 {
+    let timed = t.timed;
+    let due = t.due;
     let mut f = [0u8; TASKS];
     for i in 0..TASKS {
-        f[i] = due_flag(t, clock, i);
+        f[i] = due_flag(timed[i], due[i], clock);
     }
     f
 }
 
-// Does task `i` wait for the object?
-fn waiter_flag(t: Tasks, kind: u8, object: u8, i: usize) -> u8
-    requires { ⌜ i < taskPlaces ⌝ }
-    ensures { λ r. ⌜ r ≡ waiterFlag t kind object i ⌝ }
+// Is this a wait for the object?
+fn waiter_flag(wait: u8, at: u8, kind: u8, object: u8) -> u8
+    ensures { λ r. ⌜ r ≡ waitsOn wait at kind object ⌝ }
 {
-    if t.wait[i] != kind {
+    if wait != kind {
         return 0;
     }
-    if t.object[i] == object {
+    if at == object {
         return 1;
     }
     0
@@ -134,23 +113,24 @@ fn waiter_flag(t: Tasks, kind: u8, object: u8, i: usize) -> u8
 pub fn waiter_flags(t: Tasks, kind: u8, object: u8) -> [u8; TASKS]
     ensures { λ r. ⌜ r ≡ filled taskPlaces (waiterFlag t kind object) ⌝ }
 {
+    let wait = t.wait;
+    let at = t.object;
     let mut f = [0u8; TASKS];
     for i in 0..TASKS {
-        f[i] = waiter_flag(t, kind, object, i);
+        f[i] = waiter_flag(wait[i], at[i], kind, object);
     }
     f
 }
 
-// Does any place hold a 1?
+// Does any place hold a 1? The loop has no way out, so that all places are tested at once.
 pub fn any_flag(f: [u8; TASKS]) -> bool
     ensures { λ r. ⌜ r ≡ anyFlag f ⌝ }
 {
+    let mut none = true;
     for i in 0..TASKS {
-        if f[i] == 1 {
-            return true;
-        }
+        none = flags::both(f[i] != 1, none);
     }
-    false
+    !none
 }
 
 // The best waiter for an object, or NONE where nobody waits for it.

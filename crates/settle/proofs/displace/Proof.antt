@@ -1,11 +1,11 @@
--- `settle::displace` meets its contract.
+-- `settle::displace` meets its contract. Assumes nothing.
 use borrow.Author.Needs.{needs}
 use Rattle.machine.specs.Machine.{displaced}
 use Rattle.settle.proofs.displace.Statement.{statement}
 use Rattle.settle.proofs.displace.Tie as tie
 
-without-id-requires : tie.Need-without-id-requires
-without-id-requires c κs = search needs
+rest-requires : tie.Need-rest-requires
+rest-requires c κs = search needs
 
 key-of-requires : tie.Need-key-of-requires
 key-of-requires c κs = search needs
@@ -16,14 +16,10 @@ cast-level c = search needs
 insert-requires : tie.Need-insert-requires
 insert-requires c κs = search needs
 
-run-requires : tie.Need-run-requires
-run-requires c κs = search needs
-
 returns : tie.Need-returns
 unfolding displaced
-returns c = simp (c .run .ensures, c .before .insert .ensures, c .before .before .before .without-id .ensures, ← c .before .before .key-of .ensures)
+returns c = simp (c .insert .ensures, c .before .before .rest .ensures, ← c .before .key-of .ensures)
 
 pub displace-spec : {M : Type 1} → statement M
 displace-spec =
-    tie.close
-    (tie.spec without-id-requires key-of-requires cast-level insert-requires run-requires returns)
+    tie.close (tie.spec rest-requires key-of-requires cast-level insert-requires returns)

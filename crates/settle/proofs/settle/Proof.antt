@@ -12,7 +12,7 @@ resettle-requires c κs = search needs
 
 returns : tie.Need-returns
 unfolding settled
-returns c = simp (c .resettle .ensures, c .before .new-levels .ensures)
+returns c = simp (c .before .resettle .ensures, c .before .before .new-levels .ensures)
 
 pub settle-spec : {M : Type 1} → statement M
 settle-spec = tie.close (tie.spec new-levels-requires resettle-requires returns)
