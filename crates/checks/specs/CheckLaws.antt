@@ -30,7 +30,7 @@ use Rattle.record.specs.Reads.{ownerAt}
 use Rattle.record.specs.GoodRecord.{Typed}
 use Rattle.record.specs.TidyLaws.{tasks-fit, mutexes-fit, semaphores-fit, ready-fits, waiting-fits, running-or, unused-at}
 use Rattle.record.specs.ViewLaws.{stored-level, owner-id, unused-owner, view-tasks, view-outcomes, view-waits, view-mutexes, view-kinds, view-semaphores, view-maxima, view-outcome, view-owner}
-use Rattle.checks.specs.Checks.{sizesIn, unusedAt, tasksIn, objectsIn, waitsIn, startedIn, freeAt, setUpIn, checks}
+use Rattle.checks.specs.Checks.{sizesIn, unusedAt, tasksIn, objectsIn, tablesIn, waitsIn, startedIn, freeAt, setUpIn, checks}
 use Rattle.checks.specs.TidyCheckLaws.{checks-tidy, tidy-sizes, tidy-unused, tidy-waits}
 use Rattle.checks.specs.TableCheckLaws.{no-id, used-tasks, used-mutexes, priorities-same, times-same, outcomes-same, owner-read, mutexes-same, counts-same, lists-same, blocked-same}
 use Rattle.checks.specs.PlaceCheckLaws.{places-same, waiting-view, places-view}
@@ -100,11 +100,12 @@ runner-in k e = and-r _ _ (and-r _ _ (and-r _ _ (and-r _ _ (and-r _ _ (and-r _ _
 
 -- a record that passes is tidy
 tidy-of : (k : State) → Typed k → checks k ≡ true → tidyb k ≡ true
-unfolding checks
+unfolding checks tablesIn
 tidy-of k T c₀ =
-    let c₁ = and-r _ _ c₀ in
+    let table = and-l _ _ c₀ in
+    let c₁ = and-r _ _ table in
     let c₂ = and-r _ _ c₁ in
-    checks-tidy k T (and-l _ _ c₀) (and-l _ _ c₁) (and-l _ _ c₂) (and-l _ _ (and-r _ _ c₂))
+    checks-tidy k T (and-l _ _ table) (and-l _ _ c₁) (and-l _ _ c₂) (and-r _ _ c₂)
 
 module _ (k : State) (T : Typed k) (tidy : tidyb k ≡ true) where
   -- where the sizes and the clock are in range, and columns have one place for each
@@ -158,7 +159,7 @@ module _ (k : State) (T : Typed k) (tidy : tidyb k ≡ true) where
     started-same = started-same-key (keyOf (k .tasks .level)) (levelIn (viewTables k)) (k .ready .n) (k .running) (k .hold) (k .ready .ids)
         (omega (arith, T .ready-length, ready-fits k tidy)) (running-or k tidy) level-running level-ready
 
-    set-up-same : setUpIn k ≡ setUpb (view k)
+    set-up-same : setUpIn (k .clock) (k .hold) (k .running) (k .waiting .n) (k .mutexes .owner) (k .tasks .outcome) (k .ready) (k .tasks .level) ≡ setUpb (view k)
     unfolding setUpIn setUpb view viewTables
     set-up-same = rw (
       no-id (k .running) (running-or k tidy),
@@ -168,27 +169,27 @@ module _ (k : State) (T : Typed k) (tidy : tidyb k ≡ true) where
       ties-same-key (keyOf (k .tasks .level)) (levelIn (viewTables k)) (items (k .ready)) level-ready,
     )
 
-    phase-same : cond (eqb (k .started) 0) (setUpIn k) (startedIn (k .tasks .level) (k .ready) (k .running) (k .hold)) ≡ cond (view k .started) (runsb (view k) and holdb (view k) and urgentb (view k)) (setUpb (view k))
+    phase-same : cond (eqb (k .started) 0) (setUpIn (k .clock) (k .hold) (k .running) (k .waiting .n) (k .mutexes .owner) (k .tasks .outcome) (k .ready) (k .tasks .level)) (startedIn (k .tasks .level) (k .ready) (k .running) (k .hold)) ≡ cond (view k .started) (runsb (view k) and holdb (view k) and urgentb (view k)) (setUpb (view k))
     unfolding view
     phase-same = rw (set-up-same, started-same) (phases (eqb (k .started) 0) _ _)
 
   -- what a sound state says of the view, from the code's test, and back
   checked-sound : checks k ≡ true → levelsb k and soundb (view k) ≡ true
-  unfolding checks tasksIn objectsIn waitsIn soundb tablesb rangesb view
+  unfolding checks tablesIn tasksIn objectsIn waitsIn soundb tablesb rangesb view
   checked-sound c₀ =
-      let c₁ = and-r _ _ c₀ in
+      let table = and-l _ _ c₀ in
+      let c₁ = and-r _ _ table in
       let c₂ = and-r _ _ c₁ in
-      let c₃ = and-r _ _ c₂ in
-      let c₄ = and-r _ _ c₃ in
+      let c₄ = and-r _ _ c₀ in
       let c₅ = and-r _ _ c₄ in
       let c₆ = and-r _ _ c₅ in
       let c₇ = and-r _ _ c₆ in
-      let runner = runner-in k (and-l _ _ c₀) in
+      let runner = runner-in k (and-l _ _ table) in
       let task = and-r _ _ (and-l _ _ c₁) in
       let times = and-r _ _ (and-r _ _ task) in
       let object = and-l _ _ c₂ in
       let mutex = sym (mutexes-same k T tidy) ∙ and-l _ _ object in
-      let lists = sym (lists-same k T tidy) ∙ and-l _ _ c₃ in
+      let lists = sym (lists-same k T tidy) ∙ and-r _ _ c₂ in
       let listed = and-l _ _ lists in
       let spots = sym (places-same k T tidy listed (and-r _ _ lists)) ∙ and-l _ _ c₄ in
       let wait = and-l _ _ c₅ in
@@ -210,7 +211,7 @@ module _ (k : State) (T : Typed k) (tidy : tidyb k ≡ true) where
       (true-and _ _ (sym (ascending-same stored listed runner) ∙ and-l _ _ c₇) (sym (phase-same stored listed runner) ∙ and-r _ _ c₇)))))
 
   sound-checked : levelsb k and soundb (view k) ≡ true → checks k ≡ true
-  unfolding checks tasksIn objectsIn waitsIn soundb tablesb rangesb view
+  unfolding checks tablesIn tasksIn objectsIn waitsIn soundb tablesb rangesb view
   sound-checked e =
       let s₀ = and-r _ _ e in
       let s₁ = and-r _ _ (and-r _ _ s₀) in
@@ -227,17 +228,17 @@ module _ (k : State) (T : Typed k) (tidy : tidyb k ≡ true) where
       let spots = sym (places-view k T tidy) ∙ and-l _ _ s₁ in
       let listed = and-l _ _ spots in
       let runner = and-l _ _ (and-r _ _ spots) in
-      true-and _ _ (tidy-sizes k tidy runner)
+      true-and _ _ (true-and _ _ (tidy-sizes k tidy runner)
       (true-and _ _ (true-and _ _ (tidy-unused k tidy)
       (true-and _ _ (priorities-same k T tidy ∙ and-l _ _ (and-l _ _ t₂))
       (true-and _ _ (tidy-waits k tidy)
       (true-and _ _ (times-same k T tidy ∙ and-l _ _ t₅) (outcomes-same k T tidy ∙ and-r _ _ t₈)))))
       (true-and _ _ (true-and _ _ (mutexes-same k T tidy ∙ true-and _ _ (and-r _ _ (and-l _ _ t₂)) (and-l _ _ t₆)) (counts-same k T tidy ∙ and-l _ _ t₈))
-      (true-and _ _ (lists-same k T tidy ∙ true-and _ _ listed (and-l _ _ waits))
+      (lists-same k T tidy ∙ true-and _ _ listed (and-l _ _ waits)))))
       (true-and _ _ (places-same k T tidy listed (and-l _ _ waits) ∙ true-and _ _ (and-r _ _ waits) (and-r _ _ (and-r _ _ spots)))
       (true-and _ _ (true-and _ _ (blocked-same k T tidy ∙ and-l _ _ t₄) (facts-ringless k T tidy F))
       (true-and _ _ (levels-same k T tidy F ∙ stored)
-      (true-and _ _ (ascending-same stored listed runner ∙ and-l _ _ s₂) (phase-same stored listed runner ∙ and-r _ _ s₂))))))))
+      (true-and _ _ (ascending-same stored listed runner ∙ and-l _ _ s₂) (phase-same stored listed runner ∙ and-r _ _ s₂)))))
 
 -- the code's own test of a record is "sound state"
 pub checks-sound : (k : State) → Typed k → checks k ≡ soundOf k

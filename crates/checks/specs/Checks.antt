@@ -167,15 +167,19 @@ startedIn levels ready running hold = cond (eqb running noId) (eqb (ready .n) 0 
 abbrev pub freeAt : List ℕ → ℕ → Bool
 freeAt owners j = eqb (getD owners j 0) noId
 
-unfoldable pub setUpIn : State → Bool
-setUpIn k = eqb (k .clock) 0 and eqb (k .hold) 0 and eqb (k .running) noId and eqb (k .waiting .n) 0
-    and allb maxMutexes (freeAt (k .mutexes .owner)) and allb taskPlaces (unusedAt (k .tasks .outcome) 0) and tiesb (keyOf (k .tasks .level)) (items (k .ready))
+unfoldable pub setUpIn : ℕ → ℕ → ℕ → ℕ → List ℕ → List ℕ → TaskList → List ℕ → Bool
+setUpIn clock hold running waiting owners outcomes ready levels = eqb clock 0 and eqb hold 0 and eqb running noId and eqb waiting 0
+    and allb maxMutexes (freeAt owners) and allb taskPlaces (unusedAt outcomes 0) and tiesb (keyOf levels) (items ready)
+
+-- the tables and lists, each by itself
+unfoldable pub tablesIn : State → Bool
+tablesIn k = sizesIn k and tasksIn (k .tasks) (k .clock) and objectsIn (k .mutexes) (k .semaphores) (k .tasks .n) and listsIn (k .ready) (k .waiting) (k .tasks .n)
 
 -- all phrases, in an order in which each can rely on those before it
 unfoldable pub checks : State → Bool
 checks k =
     let t = k .tasks in
-    sizesIn k and tasksIn t (k .clock) and objectsIn (k .mutexes) (k .semaphores) (t .n) and listsIn (k .ready) (k .waiting) (t .n)
-    and placesIn (t .wait) (k .ready) (k .waiting) (t .n) (k .running) and waitsIn (t .wait) (t .object) (k .mutexes) (k .semaphores) (t .n)
+    tablesIn k and placesIn (t .wait) (k .ready) (k .waiting) (t .n) (k .running) and waitsIn (t .wait) (t .object) (k .mutexes) (k .semaphores) (t .n)
     and levelsIn (t .priority) (t .level) (t .wait) (t .object) (k .mutexes)
-    and ascb (keyOf (t .level)) (items (k .ready)) and cond (eqb (k .started) 0) (setUpIn k) (startedIn (t .level) (k .ready) (k .running) (k .hold))
+    and ascb (keyOf (t .level)) (items (k .ready)) and cond (eqb (k .started) 0)
+    (setUpIn (k .clock) (k .hold) (k .running) (k .waiting .n) (k .mutexes .owner) (t .outcome) (k .ready) (t .level)) (startedIn (t .level) (k .ready) (k .running) (k .hold))

@@ -1,6 +1,6 @@
 // The test of a record, phrase by phrase.
 ghost use mathlib.Core.Path.{_≡_};
-ghost use Rattle.checks.specs.Checks.{sizesIn, unusedIn, tasksIn, objectsIn, listsIn, placesIn, waitsIn, levelsIn};
+ghost use Rattle.checks.specs.Checks.{sizesIn, unusedIn, tasksIn, objectsIn, listsIn, tablesIn, placesIn, waitsIn, levelsIn};
 ghost use Rattle.record.specs.SoundRecord.{soundOf};
 ghost use Rattle.record.specs.GoodRecord.{Typed};
 use record::MAX_MUTEXES;
@@ -157,25 +157,32 @@ fn levels_in<'a>(
     sound_places::same(level, &lent)
 }
 
-// Is the record sound? All phrases; the sizes come first, since they bound the walks along chains of waits. The clause `types` says nothing of the
-// answer: it tells the caller's proof what every record of this type has.
-pub fn is_sound(s: State) -> bool
-    ensures answer { λ r. ⌜ r ≡ soundOf s ⌝ }
-    ensures types { λ r. ⌜ Typed s ⌝ }
+// The tables and lists, each by itself. The sizes come first: they bound the walks along chains of waits.
+fn tables_in(s: State) -> bool
+    ensures { λ r. ⌜ r ≡ tablesIn s ⌝ }
 {
     if !sizes_in(s) {
         return false;
     }
+    if !tasks_in(s.tasks, s.clock) {
+        return false;
+    }
+    if !objects_in(s.mutexes, s.semaphores, s.tasks.n) {
+        return false;
+    }
+    lists_in(s.ready, s.waiting, s.tasks.n)
+}
+
+// Is the record sound? The tables first, then what joins them. The clause `types` says nothing of the answer: it tells the caller's proof what
+// every record of this type has.
+pub fn is_sound(s: State) -> bool
+    ensures answer { λ r. ⌜ r ≡ soundOf s ⌝ }
+    ensures types { λ r. ⌜ Typed s ⌝ }
+{
+    if !tables_in(s) {
+        return false;
+    }
     let t = s.tasks;
-    if !tasks_in(t, s.clock) {
-        return false;
-    }
-    if !objects_in(s.mutexes, s.semaphores, t.n) {
-        return false;
-    }
-    if !lists_in(s.ready, s.waiting, t.n) {
-        return false;
-    }
     let wait = t.wait;
     let object = t.object;
     if !places_in(&wait, s.ready, s.waiting, t.n, s.running) {
@@ -193,7 +200,18 @@ pub fn is_sound(s: State) -> bool
         return false;
     }
     if s.started == 0 {
-        return sound_phase::set_up_in(s);
+        let owners = s.mutexes.owner;
+        let outcomes = t.outcome;
+        return sound_phase::set_up_in(
+            s.clock,
+            s.hold,
+            s.running,
+            s.waiting.n,
+            owners,
+            outcomes,
+            s.ready,
+            level,
+        );
     }
     sound_phase::started_in(level, s.ready, s.running, s.hold)
 }

@@ -11,137 +11,98 @@ use Rattle.sound.proofs.Facts.{typed}
 use Rattle.sound.proofs.is_sound.Statement.{statement}
 use Rattle.sound.proofs.is_sound.Tie as tie
 
-sizes-in-requires : tie.Need-sizes-in-requires
-sizes-in-requires c κs = search needs
+tables-in-requires : tie.Need-tables-in-requires
+tables-in-requires c κs = search needs
 
 returns : tie.Need-returns
 unfolding checks _and_
 returns c =
     let s = c .before .before .args .s in
     let T = typed s _ (c .before .before .good .0) in
-    let e : false ≡ checks s = rw (test-failed (c .before .sizes-in .ensures) (c .if1 .taken)) in
-    (e ∙ checks-sound s T, T)
-
-tasks-in-requires : tie.Need-tasks-in-requires
-tasks-in-requires c κs = search needs
-
-returns-2 : tie.Need-returns-2
-unfolding checks _and_
-returns-2 c =
-    let s = c .before .before .before .before .before .args .s in
-    let T = typed s _ (c .before .before .before .before .before .good .0) in
-    let e : false ≡ checks s = rw (test-passed (c .before .before .before .before .sizes-in .ensures) (c .before .before .before .if1 .left), test-failed (c .before .tasks-in .ensures) (c .if2 .taken)) in
-    (e ∙ checks-sound s T, T)
-
-objects-in-requires : tie.Need-objects-in-requires
-objects-in-requires c κs = search needs
-
-returns-3 : tie.Need-returns-3
-unfolding checks _and_
-returns-3 c =
-    let s = c .before .before .before .before .before .before .before .args .s in
-    let T = typed s _ (c .before .before .before .before .before .before .before .good .0) in
-    let e : false ≡ checks s = rw (test-passed (c .before .before .before .before .before .before .sizes-in .ensures) (c .before .before .before .before .before .if1 .left), test-passed (c .before .before .before .tasks-in .ensures) (c .before .before .if2 .left), test-failed (c .before .objects-in .ensures) (c .if3 .taken)) in
-    (e ∙ checks-sound s T, T)
-
-lists-in-requires : tie.Need-lists-in-requires
-lists-in-requires c κs = search needs
-
-returns-4 : tie.Need-returns-4
-unfolding checks _and_
-returns-4 c =
-    let s = c .before .before .before .before .before .before .before .before .before .args .s in
-    let T = typed s _ (c .before .before .before .before .before .before .before .before .before .good .0) in
-    let e : false ≡ checks s = rw (test-passed (c .before .before .before .before .before .before .before .before .sizes-in .ensures) (c .before .before .before .before .before .before .before .if1 .left), test-passed (c .before .before .before .before .before .tasks-in .ensures) (c .before .before .before .before .if2 .left), test-passed (c .before .before .before .objects-in .ensures) (c .before .before .if3 .left), test-failed (c .before .lists-in .ensures) (c .if4 .taken)) in
+    let e : false ≡ checks s = rw (test-failed (c .before .tables-in .ensures) (c .if1 .taken)) in
     (e ∙ checks-sound s T, T)
 
 places-in-requires : tie.Need-places-in-requires
 places-in-requires c κs = search needs
 
-returns-5 : tie.Need-returns-5
+returns-2 : tie.Need-returns-2
 unfolding checks _and_
-returns-5 c =
-    let s = c .before .before .before .before .before .before .before .before .before .before .before .before .before .before .args .s in
-    let T = typed s _ (c .before .before .before .before .before .before .before .before .before .before .before .before .before .before .good .0) in
-    let e : false ≡ checks s = rw (test-passed (c .before .before .before .before .before .before .before .before .before .before .before .before .before .sizes-in .ensures) (c .before .before .before .before .before .before .before .before .before .before .before .before .if1 .left), test-passed (c .before .before .before .before .before .before .before .before .before .before .tasks-in .ensures) (c .before .before .before .before .before .before .before .before .before .if2 .left), test-passed (c .before .before .before .before .before .before .before .before .objects-in .ensures) (c .before .before .before .before .before .before .before .if3 .left), test-passed (c .before .before .before .before .before .before .lists-in .ensures) (c .before .before .before .before .before .if4 .left), test-failed (c .before .places-in .ensures) (c .if5 .taken)) in
+returns-2 c =
+    let s = c .before .before .before .before .before .before .before .before .args .s in
+    let T = typed s _ (c .before .before .before .before .before .before .before .before .good .0) in
+    let e : false ≡ checks s = rw (test-passed (c .before .before .before .before .before .before .before .tables-in .ensures) (c .before .before .before .before .before .before .if1 .left), test-failed (c .before .places-in .ensures) (c .if2 .taken)) in
     (e ∙ checks-sound s T, T)
 
 waits-in-requires : tie.Need-waits-in-requires
 waits-in-requires c κs = search needs
 
-returns-6 : tie.Need-returns-6
+returns-3 : tie.Need-returns-3
 unfolding checks _and_
-returns-6 c =
-    let s = c .before .before .before .before .before .before .before .before .before .before .before .before .before .before .before .before .before .before .args .s in
-    let T = typed s _ (c .before .before .before .before .before .before .before .before .before .before .before .before .before .before .before .before .before .before .good .0) in
-    let e : false ≡ checks s = rw (test-passed (c .before .before .before .before .before .before .before .before .before .before .before .before .before .before .before .before .before .sizes-in .ensures) (c .before .before .before .before .before .before .before .before .before .before .before .before .before .before .before .before .if1 .left), test-passed (c .before .before .before .before .before .before .before .before .before .before .before .before .before .before .tasks-in .ensures) (c .before .before .before .before .before .before .before .before .before .before .before .before .before .if2 .left), test-passed (c .before .before .before .before .before .before .before .before .before .before .before .before .objects-in .ensures) (c .before .before .before .before .before .before .before .before .before .before .before .if3 .left), test-passed (c .before .before .before .before .before .before .before .before .before .before .lists-in .ensures) (c .before .before .before .before .before .before .before .before .before .if4 .left), test-passed (c .before .before .before .before .before .places-in .ensures) (c .before .before .before .before .if5 .left), test-failed (c .before .waits-in .ensures) (c .if6 .taken)) in
+returns-3 c =
+    let s = c .before .before .before .before .before .before .before .before .before .before .before .before .args .s in
+    let T = typed s _ (c .before .before .before .before .before .before .before .before .before .before .before .before .good .0) in
+    let e : false ≡ checks s = rw (test-passed (c .before .before .before .before .before .before .before .before .before .before .before .tables-in .ensures) (c .before .before .before .before .before .before .before .before .before .before .if1 .left), test-passed (c .before .before .before .before .before .places-in .ensures) (c .before .before .before .before .if2 .left), test-failed (c .before .waits-in .ensures) (c .if3 .taken)) in
     (e ∙ checks-sound s T, T)
 
 levels-in-requires : tie.Need-levels-in-requires
 levels-in-requires c κs = search needs
 
-returns-7 : tie.Need-returns-7
+returns-4 : tie.Need-returns-4
 unfolding checks _and_
-returns-7 c =
-    let s = c .before .before .before .before .before .before .before .before .before .before .before .before .before .before .before .before .before .before .before .before .before .before .before .before .before .args .s in
-    let T = typed s _ (c .before .before .before .before .before .before .before .before .before .before .before .before .before .before .before .before .before .before .before .before .before .before .before .before .before .good .0) in
-    let e : false ≡ checks s = rw (test-passed (c .before .before .before .before .before .before .before .before .before .before .before .before .before .before .before .before .before .before .before .before .before .before .before .before .sizes-in .ensures) (c .before .before .before .before .before .before .before .before .before .before .before .before .before .before .before .before .before .before .before .before .before .before .before .if1 .left), test-passed (c .before .before .before .before .before .before .before .before .before .before .before .before .before .before .before .before .before .before .before .before .before .tasks-in .ensures) (c .before .before .before .before .before .before .before .before .before .before .before .before .before .before .before .before .before .before .before .before .if2 .left), test-passed (c .before .before .before .before .before .before .before .before .before .before .before .before .before .before .before .before .before .before .before .objects-in .ensures) (c .before .before .before .before .before .before .before .before .before .before .before .before .before .before .before .before .before .before .if3 .left), test-passed (c .before .before .before .before .before .before .before .before .before .before .before .before .before .before .before .before .before .lists-in .ensures) (c .before .before .before .before .before .before .before .before .before .before .before .before .before .before .before .before .if4 .left), test-passed (c .before .before .before .before .before .before .before .before .before .before .before .before .places-in .ensures) (c .before .before .before .before .before .before .before .before .before .before .before .if5 .left), test-passed (c .before .before .before .before .before .before .before .before .waits-in .ensures) (c .before .before .before .before .before .before .before .if6 .left), test-failed (c .before .levels-in .ensures) (c .if7 .taken)) in
+returns-4 c =
+    let s = c .before .before .before .before .before .before .before .before .before .before .before .before .before .before .before .before .before .before .before .args .s in
+    let T = typed s _ (c .before .before .before .before .before .before .before .before .before .before .before .before .before .before .before .before .before .before .before .good .0) in
+    let e : false ≡ checks s = rw (test-passed (c .before .before .before .before .before .before .before .before .before .before .before .before .before .before .before .before .before .before .tables-in .ensures) (c .before .before .before .before .before .before .before .before .before .before .before .before .before .before .before .before .before .if1 .left), test-passed (c .before .before .before .before .before .before .before .before .before .before .before .before .places-in .ensures) (c .before .before .before .before .before .before .before .before .before .before .before .if2 .left), test-passed (c .before .before .before .before .before .before .before .before .waits-in .ensures) (c .before .before .before .before .before .before .before .if3 .left), test-failed (c .before .levels-in .ensures) (c .if4 .taken)) in
     (e ∙ checks-sound s T, T)
 
 ascending-requires : tie.Need-ascending-requires
 ascending-requires c κs = search needs
 
-returns-8 : tie.Need-returns-8
+returns-5 : tie.Need-returns-5
 unfolding checks _and_
-returns-8 c =
-    let s = c .before .before .before .before .before .before .before .before .before .before .before .before .before .before .before .before .before .before .before .before .before .before .before .before .before .before .before .args .s in
-    let T = typed s _ (c .before .before .before .before .before .before .before .before .before .before .before .before .before .before .before .before .before .before .before .before .before .before .before .before .before .before .before .good .0) in
-    let e : false ≡ checks s = rw (test-passed (c .before .before .before .before .before .before .before .before .before .before .before .before .before .before .before .before .before .before .before .before .before .before .before .before .before .before .sizes-in .ensures) (c .before .before .before .before .before .before .before .before .before .before .before .before .before .before .before .before .before .before .before .before .before .before .before .before .before .if1 .left), test-passed (c .before .before .before .before .before .before .before .before .before .before .before .before .before .before .before .before .before .before .before .before .before .before .before .tasks-in .ensures) (c .before .before .before .before .before .before .before .before .before .before .before .before .before .before .before .before .before .before .before .before .before .before .if2 .left), test-passed (c .before .before .before .before .before .before .before .before .before .before .before .before .before .before .before .before .before .before .before .before .before .objects-in .ensures) (c .before .before .before .before .before .before .before .before .before .before .before .before .before .before .before .before .before .before .before .before .if3 .left), test-passed (c .before .before .before .before .before .before .before .before .before .before .before .before .before .before .before .before .before .before .before .lists-in .ensures) (c .before .before .before .before .before .before .before .before .before .before .before .before .before .before .before .before .before .before .if4 .left), test-passed (c .before .before .before .before .before .before .before .before .before .before .before .before .before .before .places-in .ensures) (c .before .before .before .before .before .before .before .before .before .before .before .before .before .if5 .left), test-passed (c .before .before .before .before .before .before .before .before .before .before .waits-in .ensures) (c .before .before .before .before .before .before .before .before .before .if6 .left), test-passed (c .before .before .before .levels-in .ensures) (c .before .before .if7 .left), test-failed (c .before .ascending .ensures) (c .if8 .taken)) in
+returns-5 c =
+    let s = c .before .before .before .before .before .before .before .before .before .before .before .before .before .before .before .before .before .before .before .before .before .args .s in
+    let T = typed s _ (c .before .before .before .before .before .before .before .before .before .before .before .before .before .before .before .before .before .before .before .before .before .good .0) in
+    let e : false ≡ checks s = rw (test-passed (c .before .before .before .before .before .before .before .before .before .before .before .before .before .before .before .before .before .before .before .before .tables-in .ensures) (c .before .before .before .before .before .before .before .before .before .before .before .before .before .before .before .before .before .before .before .if1 .left), test-passed (c .before .before .before .before .before .before .before .before .before .before .before .before .before .before .places-in .ensures) (c .before .before .before .before .before .before .before .before .before .before .before .before .before .if2 .left), test-passed (c .before .before .before .before .before .before .before .before .before .before .waits-in .ensures) (c .before .before .before .before .before .before .before .before .before .if3 .left), test-passed (c .before .before .before .levels-in .ensures) (c .before .before .if4 .left), test-failed (c .before .ascending .ensures) (c .if5 .taken)) in
     (e ∙ checks-sound s T, T)
 
 set-up-in-requires : tie.Need-set-up-in-requires
 set-up-in-requires c κs = search needs
 
-returns-9 : tie.Need-returns-9
+returns-6 : tie.Need-returns-6
 unfolding checks _and_
-returns-9 c =
-    let s = c .before .before .before .before .before .before .before .before .before .before .before .before .before .before .before .before .before .before .before .before .before .before .before .before .before .before .before .before .before .before .args .s in
-    let T = typed s _ (c .before .before .before .before .before .before .before .before .before .before .before .before .before .before .before .before .before .before .before .before .before .before .before .before .before .before .before .before .before .before .good .0) in
-    let e : c .set-up-in .result ≡ checks s = rw (test-passed (c .before .before .before .before .before .before .before .before .before .before .before .before .before .before .before .before .before .before .before .before .before .before .before .before .before .before .before .before .before .sizes-in .ensures) (c .before .before .before .before .before .before .before .before .before .before .before .before .before .before .before .before .before .before .before .before .before .before .before .before .before .before .before .before .if1 .left), test-passed (c .before .before .before .before .before .before .before .before .before .before .before .before .before .before .before .before .before .before .before .before .before .before .before .before .before .before .tasks-in .ensures) (c .before .before .before .before .before .before .before .before .before .before .before .before .before .before .before .before .before .before .before .before .before .before .before .before .before .if2 .left), test-passed (c .before .before .before .before .before .before .before .before .before .before .before .before .before .before .before .before .before .before .before .before .before .before .before .before .objects-in .ensures) (c .before .before .before .before .before .before .before .before .before .before .before .before .before .before .before .before .before .before .before .before .before .before .before .if3 .left), test-passed (c .before .before .before .before .before .before .before .before .before .before .before .before .before .before .before .before .before .before .before .before .before .before .lists-in .ensures) (c .before .before .before .before .before .before .before .before .before .before .before .before .before .before .before .before .before .before .before .before .before .if4 .left), test-passed (c .before .before .before .before .before .before .before .before .before .before .before .before .before .before .before .before .before .places-in .ensures) (c .before .before .before .before .before .before .before .before .before .before .before .before .before .before .before .before .if5 .left), test-passed (c .before .before .before .before .before .before .before .before .before .before .before .before .before .waits-in .ensures) (c .before .before .before .before .before .before .before .before .before .before .before .before .if6 .left), test-passed (c .before .before .before .before .before .before .levels-in .ensures) (c .before .before .before .before .before .if7 .left), test-passed (c .before .before .before .before .ascending .ensures) (c .before .before .before .if8 .left), eq-eqb _ _ (c .before .if9 .taken)) (c .set-up-in .ensures) in
+returns-6 c =
+    let s = c .before .before .before .before .before .before .before .before .before .before .before .before .before .before .before .before .before .before .before .before .before .before .before .before .before .before .args .s in
+    let T = typed s _ (c .before .before .before .before .before .before .before .before .before .before .before .before .before .before .before .before .before .before .before .before .before .before .before .before .before .before .good .0) in
+    let e : c .set-up-in .result ≡ checks s = rw (test-passed (c .before .before .before .before .before .before .before .before .before .before .before .before .before .before .before .before .before .before .before .before .before .before .before .before .before .tables-in .ensures) (c .before .before .before .before .before .before .before .before .before .before .before .before .before .before .before .before .before .before .before .before .before .before .before .before .if1 .left), test-passed (c .before .before .before .before .before .before .before .before .before .before .before .before .before .before .before .before .before .before .before .places-in .ensures) (c .before .before .before .before .before .before .before .before .before .before .before .before .before .before .before .before .before .before .if2 .left), test-passed (c .before .before .before .before .before .before .before .before .before .before .before .before .before .before .before .waits-in .ensures) (c .before .before .before .before .before .before .before .before .before .before .before .before .before .before .if3 .left), test-passed (c .before .before .before .before .before .before .before .before .levels-in .ensures) (c .before .before .before .before .before .before .before .if4 .left), test-passed (c .before .before .before .before .before .before .ascending .ensures) (c .before .before .before .before .before .if5 .left), eq-eqb _ _ (c .before .before .before .if6 .taken)) (c .set-up-in .ensures) in
     (e ∙ checks-sound s T, T)
 
 started-in-requires : tie.Need-started-in-requires
 started-in-requires c κs = search needs
 
-returns-10 : tie.Need-returns-10
+returns-7 : tie.Need-returns-7
 unfolding checks _and_
-returns-10 c =
-    let s = c .before .before .before .before .before .before .before .before .before .before .before .before .before .before .before .before .before .before .before .before .before .before .before .before .before .before .before .before .before .before .args .s in
-    let T = typed s _ (c .before .before .before .before .before .before .before .before .before .before .before .before .before .before .before .before .before .before .before .before .before .before .before .before .before .before .before .before .before .before .good .0) in
-    let e : c .started-in .result ≡ checks s = rw (test-passed (c .before .before .before .before .before .before .before .before .before .before .before .before .before .before .before .before .before .before .before .before .before .before .before .before .before .before .before .before .before .sizes-in .ensures) (c .before .before .before .before .before .before .before .before .before .before .before .before .before .before .before .before .before .before .before .before .before .before .before .before .before .before .before .before .if1 .left), test-passed (c .before .before .before .before .before .before .before .before .before .before .before .before .before .before .before .before .before .before .before .before .before .before .before .before .before .before .tasks-in .ensures) (c .before .before .before .before .before .before .before .before .before .before .before .before .before .before .before .before .before .before .before .before .before .before .before .before .before .if2 .left), test-passed (c .before .before .before .before .before .before .before .before .before .before .before .before .before .before .before .before .before .before .before .before .before .before .before .before .objects-in .ensures) (c .before .before .before .before .before .before .before .before .before .before .before .before .before .before .before .before .before .before .before .before .before .before .before .if3 .left), test-passed (c .before .before .before .before .before .before .before .before .before .before .before .before .before .before .before .before .before .before .before .before .before .before .lists-in .ensures) (c .before .before .before .before .before .before .before .before .before .before .before .before .before .before .before .before .before .before .before .before .before .if4 .left), test-passed (c .before .before .before .before .before .before .before .before .before .before .before .before .before .before .before .before .before .places-in .ensures) (c .before .before .before .before .before .before .before .before .before .before .before .before .before .before .before .before .if5 .left), test-passed (c .before .before .before .before .before .before .before .before .before .before .before .before .before .waits-in .ensures) (c .before .before .before .before .before .before .before .before .before .before .before .before .if6 .left), test-passed (c .before .before .before .before .before .before .levels-in .ensures) (c .before .before .before .before .before .if7 .left), test-passed (c .before .before .before .before .ascending .ensures) (c .before .before .before .if8 .left), ne-eqb _ _ (c .before .if9 .left)) (c .started-in .ensures) in
+returns-7 c =
+    let s = c .before .before .before .before .before .before .before .before .before .before .before .before .before .before .before .before .before .before .before .before .before .before .before .before .args .s in
+    let T = typed s _ (c .before .before .before .before .before .before .before .before .before .before .before .before .before .before .before .before .before .before .before .before .before .before .before .before .good .0) in
+    let e : c .started-in .result ≡ checks s = rw (test-passed (c .before .before .before .before .before .before .before .before .before .before .before .before .before .before .before .before .before .before .before .before .before .before .before .tables-in .ensures) (c .before .before .before .before .before .before .before .before .before .before .before .before .before .before .before .before .before .before .before .before .before .before .if1 .left), test-passed (c .before .before .before .before .before .before .before .before .before .before .before .before .before .before .before .before .before .places-in .ensures) (c .before .before .before .before .before .before .before .before .before .before .before .before .before .before .before .before .if2 .left), test-passed (c .before .before .before .before .before .before .before .before .before .before .before .before .before .waits-in .ensures) (c .before .before .before .before .before .before .before .before .before .before .before .before .if3 .left), test-passed (c .before .before .before .before .before .before .levels-in .ensures) (c .before .before .before .before .before .if4 .left), test-passed (c .before .before .before .before .ascending .ensures) (c .before .before .before .if5 .left), ne-eqb _ _ (c .before .if6 .left)) (c .started-in .ensures) in
     (e ∙ checks-sound s T, T)
 
 pub is-sound-spec : {M : Type 1} → statement M
 is-sound-spec =
     tie.close
     (tie.spec
-    sizes-in-requires
+    tables-in-requires
     returns
-    tasks-in-requires
-    returns-2
-    objects-in-requires
-    returns-3
-    lists-in-requires
-    returns-4
     places-in-requires
-    returns-5
+    returns-2
     waits-in-requires
-    returns-6
+    returns-3
     levels-in-requires
-    returns-7
+    returns-4
     ascending-requires
-    returns-8
+    returns-5
     set-up-in-requires
-    returns-9
+    returns-6
     started-in-requires
-    returns-10)
+    returns-7)
