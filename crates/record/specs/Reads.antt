@@ -13,10 +13,6 @@ use Rattle.record.specs.declared.Mutexes.{Mutexes}  -- keep
 use Rattle.record.specs.declared.Semaphores.{Semaphores}  -- keep
 use Rattle.task_lists.specs.declared.TaskList.{TaskList}  -- keep
 
--- the clock at which a task's timed wait ends
-abbrev pub dueOf : Tasks → ℕ → ℕ
-dueOf t i = getD (t .due) i 0
-
 -- a mutex's owner and kind
 abbrev pub ownerAt : Mutexes → ℕ → ℕ
 ownerAt m j = getD (m .owner) j noId

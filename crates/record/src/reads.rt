@@ -1,31 +1,18 @@
 // What stands at a place of the record: for a number that is no place, what an unused one holds.
 ghost use mathlib.Core.Path.{_≡_};
 ghost use Rattle.record.specs.Record.{ticksLeft};
-ghost use Rattle.record.specs.Reads.{dueOf, ownerAt, kindAt, countAt, maximumAt};
+ghost use Rattle.record.specs.Reads.{ownerAt, countAt, maximumAt};
 use crate::MUTEXES;
 use crate::Mutexes;
 use crate::NONE;
 use crate::SEMAPHORES;
 use crate::Semaphores;
-use crate::TASKS;
-use crate::Tasks;
 
 // "wrapping subtract gives ticks left for each timed wait"
 pub fn ticks_left(due: u32, clock: u32) -> u32
     ensures { λ r. ⌜ r ≡ ticksLeft due clock ⌝ }
 {
     std::num::wrapping_sub_u32(due, clock)
-}
-
-// The clock at which a task's timed wait ends.
-pub fn due_of(t: Tasks, i: u8) -> u32
-    ensures { λ r. ⌜ r ≡ dueOf t i ⌝ }
-{
-    let j = i as usize;
-    if TASKS <= j {
-        return 0;
-    }
-    t.due[j]
 }
 
 // A mutex's owner; NONE for a number that no mutex has.
@@ -37,16 +24,6 @@ pub fn owner_at(m: Mutexes, j: u8) -> u8
         return NONE;
     }
     m.owner[i]
-}
-
-pub fn kind_at(m: Mutexes, j: u8) -> u8
-    ensures { λ r. ⌜ r ≡ kindAt m j ⌝ }
-{
-    let i = j as usize;
-    if MUTEXES <= i {
-        return 0;
-    }
-    m.kind[i]
 }
 
 pub fn count_at(c: Semaphores, j: u8) -> u32

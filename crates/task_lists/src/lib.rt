@@ -66,16 +66,7 @@ pub fn push(q: TaskList, id: u8) -> TaskList
     q
 }
 
-// The place of the first whose key is at least `t`, or behind all.
-pub fn place_of(q: TaskList, keys: [u8; PLACES], t: u16) -> usize
-    ensures { λ r. ⌜ r ≡ placeOf keys t (items q) ⌝ }
-{
-    let n = len(q);
-    let ids = q.ids;
-    place_in(&ids, n, &keys, t)
-}
-
-// The same in a table whose first `n` places are used.
+// The place of the first whose key is at least `t`, or behind all, in a table whose first `n` places are used.
 fn place_in(ids: &[u8; PLACES], n: usize, keys: &[u8; PLACES], t: u16) -> usize
     requires { ⌜ (n ≤ places) × (length (now ids) ≡ places) × (length (now keys) ≡ places) ⌝ }
     ensures { λ r. ⌜ r ≡ placeOf (now (keys .entry)) t (take n (now (ids .entry))) ⌝ }
