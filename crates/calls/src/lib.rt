@@ -1,6 +1,7 @@
 // A step by its code, on a record by value.
 ghost use mathlib.Core.Path.{_≡_};
 ghost use Rattle.calls.specs.Call.{requestOf, callOf};
+use kernel::refused;
 use record::Out;
 use record::Request;
 use record::State;
@@ -45,12 +46,16 @@ pub fn request_of(code: u32, a: u32, b: u32) -> Asked
     Asked::Step { request: request }
 }
 
-// What is asked for, done; a code that names no step is answered as a line that is none.
+// What is asked for, done on a record that is tested first: 14 for a code that names no step, 15, or its step made.
 pub fn call(s: State, x: Asked) -> Out
     ensures { λ r. ⌜ r ≡ callOf s x ⌝ }
 {
-    match x {
-        Asked::Step { request } => kernel::step(s, request),
-        Asked::Nothing => kernel::malformed(s),
+    let sound = sound::is_sound(s);
+    let Asked::Step { request } = x else {
+        return refused::malformed(s, sound);
+    };
+    if !sound {
+        return refused::unsound(s);
     }
+    steps::perform(s, request)
 }

@@ -1,9 +1,8 @@
-// The kernel: the step that takes any record and any request, and the refusal of what is no step.
+// The kernel: the step that takes any record and any request, and the refusals that no step gives.
 pub mod refused;
 
 ghost use mathlib.Core.Path.{_≡_};
-ghost use Rattle.record.specs.StepRecord.{stepOf, stays};
-ghost use Rattle.record.specs.DemandRecord.{standingIn};
+ghost use Rattle.record.specs.StepRecord.{stepOf};
 use record::Out;
 use record::Request;
 use record::State;
@@ -16,12 +15,4 @@ pub fn step(s: State, x: Request) -> Out
         return steps::perform(s, x);
     }
     refused::unsound(s)
-}
-
-// 14: what was asked for is no step.
-pub fn malformed(s: State) -> Out
-    ensures { λ r. ⌜ r ≡ stays s 14 0 (standingIn s) ⌝ }
-{
-    let sound = sound::is_sound(s);
-    refused::malformed(s, sound)
 }

@@ -24,9 +24,11 @@ use Rattle.task_lists.specs.TaskList.{places, noId, taskListOf, keyOf, inserted
 use Rattle.task_lists.specs.TaskListLaws.{items-taskListOf, head-taskListOf}
 use Rattle.record.specs.Record.{packTasks, pack}
 use Rattle.record.specs.Reads.{firstId}
-use Rattle.machine.specs.Machine.{restOf, ran, displaced, dispatched}
+use Rattle.record.specs.Setters.{putReady, putRunning}
+use Rattle.machine.specs.Machine.{restOf, displaced, turnOf, dispatched}
 use Rattle.record.specs.ReadLaws.{level-read}
 use Rattle.record.specs.declared.State.{State}  -- keep
+use Rattle.task_lists.specs.declared.TaskList.{TaskList}  -- keep
 use Rattle.rules.specs.State.{State as Model, levelOf, placed}  -- keep
 
 -- the first leaves
@@ -34,29 +36,33 @@ first-leaves : (x : ℕ) (l : List ℕ) → restOf (taskListOf (x ∷ l)) ≡ ta
 unfolding restOf
 first-leaves x l = rw (items-taskListOf (x ∷ l)) refl
 
+-- x runs, q being ready behind it
+abbrev ran : State → ℕ → TaskList → State
+ran k x q = putRunning (putReady k q) x
+
 -- what the code does in each case
 module _ (k : State) (on : eqb (k .started) 0 ≡ false) where
   case-empty : eqb (k .ready .n) 0 ≡ true → dispatched k ≡ k
-  unfolding dispatched
+  unfolding dispatched turnOf
   case-empty e = rw (on, e) refl
 
   module _ (some-ready : eqb (k .ready .n) 0 ≡ false) where
     case-idle : eqb (k .running) noId ≡ true → dispatched k ≡ ran k (firstId (k .ready)) (restOf (k .ready))
-    unfolding dispatched
+    unfolding dispatched turnOf
     case-idle e = rw (on, some-ready, e) refl
 
     module _ (runs : eqb (k .running) noId ≡ false) where
       case-held : eqb (k .hold) 0 ≡ false → dispatched k ≡ k
-      unfolding dispatched
+      unfolding dispatched turnOf
       case-held e = rw (on, some-ready, runs, e) refl
 
       case-stays : eqb (k .hold) 0 ≡ true → ltb (keyOf (k .tasks .level) (firstId (k .ready))) (keyOf (k .tasks .level) (k .running)) ≡ false → dispatched k ≡ k
-      unfolding dispatched
+      unfolding dispatched turnOf
       case-stays e f = rw (on, some-ready, runs, e, f) refl
 
       pub case-displaced : eqb (k .hold) 0 ≡ true → ltb (keyOf (k .tasks .level) (firstId (k .ready))) (keyOf (k .tasks .level) (k .running)) ≡ true
           → dispatched k ≡ ran k (firstId (k .ready)) (displaced (k .ready) (k .tasks .level) (k .running))
-      unfolding dispatched
+      unfolding dispatched turnOf
       case-displaced e f = rw (on, some-ready, runs, e, f) refl
 
 -- what the rules do with a running task
@@ -135,7 +141,7 @@ unfolding dispatch
 dispatch-off s e = rw e refl
 
 case-off : (k : State) → eqb (k .started) 0 ≡ true → dispatched k ≡ k
-unfolding dispatched
+unfolding dispatched turnOf
 case-off k e = rw e refl
 
 pub dispatch-pack : (s : Model) → Facts (s .tables) → Places s [] → dispatched (pack s) ≡ pack (dispatch s)

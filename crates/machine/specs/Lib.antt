@@ -6,6 +6,7 @@ pub mod FlagLaws
 pub mod WaitLaws
 pub mod EffectLaws
 pub mod ObjectLaws
+pub mod PartLaws
 pub mod RowLaws
 pub mod FinishLaws
 pub mod PlainStepLaws

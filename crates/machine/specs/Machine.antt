@@ -21,6 +21,8 @@ use Rattle.record.specs.declared.Semaphores.{Semaphores}  -- keep
 use Rattle.task_lists.specs.declared.TaskList.{TaskList}  -- keep
 use Rattle.record.specs.declared.Out.{Out}  -- keep
 use Rattle.record.specs.declared.Request.{Request}  -- keep
+use Rattle.machine.specs.declared.Order.{Order}  -- keep
+use Rattle.machine.specs.declared.Turn.{Turn}  -- keep
 use Rattle.record.specs.declared.Request.the-variants.{Task, Mutex, Sem, Start, Lock, Unlock, Pend, Post, Flush, Sleep, Yield, Hold, Free, Tick, Level, Outcome}  -- keep
 use Rattle.record.specs.Setters.{putTasks, putSemaphores, putClock, putMutexes, putReady, putWaiting, putStarted, putHold, putRunning, putLevel}
 use Rattle.record.specs.StepRecord.{answerOf}
@@ -105,30 +107,42 @@ resettled q old new woken n =
     let changed = filled taskPlaces (differFlag old new) in
     cond (anyFlag changed) (insertedFlagged (reordered q changed new n) new woken n) (insertedFlagged q new woken n)
 
+-- levels as defined, and the ready order that follows them
+unfoldable pub orderOf : Tasks → Mutexes → TaskList → List ℕ → Order
+orderOf t m ready woken = let new = newLevels t m in record { level = new; ready = resettled ready (t .level) new woken (t .n) }
+
+abbrev pub putOrder : State → Order → State
+putOrder k o = putReady (putTasks k (putLevel (k .tasks) (o .level))) (o .ready)
+
 unfoldable pub settled : State → List ℕ → State
-settled k woken =
-    let new = newLevels (k .tasks) (k .mutexes) in
-    putReady (putTasks k (putLevel (k .tasks) new)) (resettled (k .ready) (k .tasks .level) new woken (k .tasks .n))
+settled k woken = putOrder k (orderOf (k .tasks) (k .mutexes) (k .ready) woken)
 
 -- the list without its first
 unfoldable pub restOf : TaskList → TaskList
 restOf q = taskListOf (drop 1 (items q))
 
-abbrev pub ran : State → ℕ → TaskList → State
-ran k x q = putRunning (putReady k q) x
-
 -- the ready order when its first takes the place of r, which goes to the head of its level
 unfoldable pub displaced : TaskList → List ℕ → ℕ → TaskList
 displaced q keys r = inserted (restOf q) keys (keyOf keys r) r
 
+-- who runs, and the ready order behind it
+abbrev pub turn : TaskList → ℕ → Turn
+turn q x = record { ready = q; running = x }
+
+unfoldable pub turnOf : ℕ → TaskList → List ℕ → ℕ → ℕ → Turn
+turnOf started q keys running hold =
+    cond (eqb started 0) (turn q running)
+    (cond (eqb (q .n) 0) (turn q running)
+    (cond (eqb running noId) (turn (restOf q) (firstId q))
+    (cond (eqb hold 0)
+    (cond (ltb (keyOf keys (firstId q)) (keyOf keys running)) (turn (displaced q keys running) (firstId q)) (turn q running))
+    (turn q running))))
+
+abbrev pub putTurn : State → Turn → State
+putTurn k t = putRunning (putReady k (t .ready)) (t .running)
+
 unfoldable pub dispatched : State → State
-dispatched k =
-    cond (eqb (k .started) 0) k
-    (cond (eqb (k .ready .n) 0) k
-    (cond (eqb (k .running) noId) (ran k (firstId (k .ready)) (restOf (k .ready)))
-    (cond (eqb (k .hold) 0)
-    (cond (ltb (keyOf (k .tasks .level) (firstId (k .ready))) (keyOf (k .tasks .level) (k .running))) (ran k (firstId (k .ready)) (displaced (k .ready) (k .tasks .level) (k .running))) k)
-    k)))
+dispatched k = putTurn k (turnOf (k .started) (k .ready) (k .tasks .level) (k .running) (k .hold))
 
 -- the waits of the flagged tasks end
 unfoldable pub woke : State → List ℕ → ℕ → ℕ → State

@@ -27,7 +27,7 @@ use Rattle.task_lists.specs.TaskList.{taskListOf, keyOf, insertedFlagged, count
 use Rattle.task_lists.specs.TaskListLaws.{items-taskListOf, length-insertAll, flagged-taskListOf, kept-taskListOf, getD-counted}
 use Rattle.record.specs.Record.{packTasks, pack}
 use Rattle.record.specs.Setters.{putTasks, putReady, putLevel}
-use Rattle.machine.specs.Machine.{differs, differFlag, bothOnes, bothFlag, anyFlag, movedOf, reordered, resettled, settled, lined}
+use Rattle.machine.specs.Machine.{differs, differFlag, bothOnes, bothFlag, anyFlag, movedOf, reordered, resettled, orderOf, settled, lined}
 use Rattle.record.specs.PackLaws.{levelColumn, packWith}
 use Rattle.machine.specs.FlagLaws.{no-flag}
 use Rattle.record.specs.ReadLaws.{level-out, key-level, key-levels, length-levels, new-levels}
@@ -217,7 +217,7 @@ module _ (before s : Model) (woken flags : List ℕ) (F : Facts (s .tables)) (sa
       ∙ ap (λ f. taskListOf (settledReady (taskCount (s .tables)) (levelOf before) f (s .ready) woken)) (key-levels (s .tables))
 
   pub settle-pack : settled (packWith (levelColumn (before .tables)) s) flags ≡ pack (settle (levelOf before) s woken)
-  unfolding settled packWith pack packTasks levelColumn
+  unfolding settled orderOf packWith pack packTasks levelColumn
   settle-pack = ap made (new-levels s F (levelColumn (before .tables))) ∙ ap (λ q. putReady (pack s) q) settled-list
     where
       k : State

@@ -1,6 +1,6 @@
 // The steps on mutexes: the refusals in the order of the table, then what the step does.
 ghost use mathlib.Core.Path.{_≡_};
-ghost use Rattle.machine.specs.Machine.{lockStep, lockWaits, passedTo, unlockStep};
+ghost use Rattle.machine.specs.Machine.{lockStep, lockWaits, unlockStep};
 use record::GRANTED;
 use record::NONE;
 use record::ON_MUTEX;
@@ -12,7 +12,7 @@ use replies::answers;
 use replies::refusals;
 
 // A lock that meets a taken mutex: the caller waits, unless it may not.
-fn lock_waits(s: State, m: u8, time: u32) -> Out
+fn lock_waits(mut s: State, m: u8, time: u32) -> Out
     ensures { λ r. ⌜ r ≡ lockWaits s m time ⌝ }
 {
     let no = refusals::of_wait(s.hold, time);
@@ -29,9 +29,19 @@ fn lock_waits(s: State, m: u8, time: u32) -> Out
     if f.ring {
         return answers::answer(s, 12, f.links as u32);
     }
-    let b = settle::block(s, s.running, ON_MUTEX, m, time);
-    let d = settle::dispatch(settle::settle(b, [0u8; TASKS]));
-    answers::answer(d, 1, f.links as u32)
+    let mut tasks = waits::begin_wait(t, s.running, ON_MUTEX, m, s.clock, time);
+    s.waiting = task_lists::push(s.waiting, s.running);
+    let q = s.ready;
+    let order = settle::settle(tasks, mutexes, q, [0u8; TASKS]);
+    let levels = order.level;
+    let ready = order.ready;
+    tasks.level = levels;
+    s.tasks = tasks;
+    let turn = settle::dispatch(s.started, ready, levels, NONE, s.hold);
+    let queue = turn.ready;
+    s.ready = queue;
+    s.running = turn.running;
+    answers::answer(s, 1, f.links as u32)
 }
 
 pub fn lock(mut s: State, m: u32, time: u32) -> Out
@@ -53,29 +63,14 @@ pub fn lock(mut s: State, m: u32, time: u32) -> Out
         return answers::answer(s, 9, 0);
     }
     if owner == NONE {
-        let mutexes = objects::set_owner(s.mutexes, j, s.running);
-        s.mutexes = mutexes;
+        s.mutexes = objects::set_owner(s.mutexes, j, s.running);
         return answers::answer(s, 0, 0);
     }
     lock_waits(s, j, time)
 }
 
-// Ownership passes to `w`, or the mutex becomes free.
-fn pass(mut s: State, m: u8, w: u8) -> State
-    ensures { λ r. ⌜ r ≡ passedTo s m w ⌝ }
-{
-    let mutexes = objects::set_owner(s.mutexes, m, w);
-    if w == NONE {
-        s.mutexes = mutexes;
-        return s;
-    }
-    let flags = waits::only(w);
-    let mut r = settle::wake(s, flags, GRANTED, GRANTED);
-    r.mutexes = mutexes;
-    settle::dispatch(settle::settle(r, flags))
-}
-
-pub fn unlock(s: State, m: u32) -> Out
+// Ownership passes to the best waiter; where nobody waits, the mutex becomes free.
+pub fn unlock(mut s: State, m: u32) -> Out
     ensures { λ r. ⌜ r ≡ unlockStep s m ⌝ }
 {
     let not_now = refusals::of_caller(s.started, s.running);
@@ -89,7 +84,25 @@ pub fn unlock(s: State, m: u32) -> Out
     if reads::owner_at(s.mutexes, j) != s.running {
         return answers::answer(s, 10, 0);
     }
-    let w = waits::best_for(s.tasks, s.waiting, ON_MUTEX, j);
-    let r = pass(s, j, w);
-    answers::answer(r, 0, 0)
+    let best = waits::best_for(s.tasks, s.waiting, ON_MUTEX, j);
+    let mutexes = objects::set_owner(s.mutexes, j, best);
+    s.mutexes = mutexes;
+    if best == NONE {
+        return answers::answer(s, 0, 0);
+    }
+    let flags = waits::only(best);
+    let t = s.tasks;
+    let mut tasks = waits::end_where(t, flags, GRANTED, GRANTED);
+    s.waiting = task_lists::keep_flagged(s.waiting, flags, 0);
+    let q = s.ready;
+    let order = settle::settle(tasks, mutexes, q, flags);
+    let levels = order.level;
+    let ready = order.ready;
+    tasks.level = levels;
+    s.tasks = tasks;
+    let turn = settle::dispatch(s.started, ready, levels, s.running, s.hold);
+    let queue = turn.ready;
+    s.ready = queue;
+    s.running = turn.running;
+    answers::answer(s, 0, 0)
 }

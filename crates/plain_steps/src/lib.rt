@@ -22,11 +22,12 @@ pub fn yield_now(mut s: State) -> Out
     let t = s.tasks;
     let levels = t.level;
     let level = task_lists::key_of(levels, id) as u16;
-    let q = task_lists::insert(s.ready, levels, level + 1, id);
-    s.ready = q;
-    s.running = NONE;
-    let d = settle::dispatch(s);
-    answers::answer(d, 0, 0)
+    let ready = task_lists::insert(s.ready, levels, level + 1, id);
+    let turn = settle::dispatch(s.started, ready, levels, NONE, s.hold);
+    let queue = turn.ready;
+    s.ready = queue;
+    s.running = turn.running;
+    answers::answer(s, 0, 0)
 }
 
 pub fn hold(mut s: State) -> Out
@@ -54,8 +55,14 @@ pub fn free(mut s: State) -> Out
         return answers::answer(s, 13, 0);
     }
     s.hold -= 1;
-    let d = settle::dispatch(s);
-    answers::answer(d, 0, 0)
+    let t = s.tasks;
+    let levels = t.level;
+    let ready = s.ready;
+    let turn = settle::dispatch(s.started, ready, levels, s.running, s.hold);
+    let queue = turn.ready;
+    s.ready = queue;
+    s.running = turn.running;
+    answers::answer(s, 0, 0)
 }
 
 pub fn level(s: State, i: u32) -> Out

@@ -1,6 +1,6 @@
 // The steps on semaphores: the refusals in the order of the table, then what the step does.
 ghost use mathlib.Core.Path.{_≡_};
-ghost use Rattle.machine.specs.Machine.{pendStep, creditStep, postStep, flushStep};
+ghost use Rattle.machine.specs.Machine.{pendStep, postStep, flushStep};
 use record::FLUSHED;
 use record::GRANTED;
 use record::NONE;
@@ -27,39 +27,27 @@ pub fn pend(mut s: State, k: u32, time: u32) -> Out
     let j = k as u8;
     let count = reads::count_at(s.semaphores, j);
     if count != 0 {
-        let c = objects::set_count(s.semaphores, j, count - 1);
-        s.semaphores = c;
+        s.semaphores = objects::set_count(s.semaphores, j, count - 1);
         return answers::answer(s, 0, 0);
     }
     let no = refusals::of_wait(s.hold, time);
     if no != 0 {
         return answers::answer(s, no, 0);
     }
-    let b = settle::block(s, s.running, ON_SEMAPHORE, j, time);
-    let d = settle::dispatch(b);
-    answers::answer(d, 1, 0)
+    let tasks = waits::begin_wait(s.tasks, s.running, ON_SEMAPHORE, j, s.clock, time);
+    s.tasks = tasks;
+    s.waiting = task_lists::push(s.waiting, s.running);
+    let levels = tasks.level;
+    let ready = s.ready;
+    let turn = settle::dispatch(s.started, ready, levels, NONE, s.hold);
+    let queue = turn.ready;
+    s.ready = queue;
+    s.running = turn.running;
+    answers::answer(s, 1, 0)
 }
 
-// The waiter `w` gets the credit; where there is none, the count rises up to the maximum.
-fn credit(mut s: State, j: u8, w: u8) -> Out
-    ensures { λ r. ⌜ r ≡ creditStep s j w ⌝ }
-{
-    if w != NONE {
-        let flags = waits::only(w);
-        let r = settle::wake(s, flags, GRANTED, GRANTED);
-        let d = settle::dispatch(settle::line_up(r, flags));
-        return answers::answer(d, 0, 0);
-    }
-    let count = reads::count_at(s.semaphores, j);
-    if reads::maximum_at(s.semaphores, j) <= count {
-        return answers::answer(s, 2, 0);
-    }
-    let c = objects::set_count(s.semaphores, j, count + 1);
-    s.semaphores = c;
-    answers::answer(s, 0, 0)
-}
-
-pub fn post(s: State, k: u32) -> Out
+// The best waiter gets the credit; where nobody waits, the count rises up to the maximum.
+pub fn post(mut s: State, k: u32) -> Out
     ensures { λ r. ⌜ r ≡ postStep s k ⌝ }
 {
     if s.started == 0 {
@@ -69,11 +57,30 @@ pub fn post(s: State, k: u32) -> Out
         return answers::answer(s, 6, 0);
     }
     let j = k as u8;
-    let w = waits::best_for(s.tasks, s.waiting, ON_SEMAPHORE, j);
-    credit(s, j, w)
+    let best = waits::best_for(s.tasks, s.waiting, ON_SEMAPHORE, j);
+    if best == NONE {
+        let count = reads::count_at(s.semaphores, j);
+        if reads::maximum_at(s.semaphores, j) <= count {
+            return answers::answer(s, 2, 0);
+        }
+        s.semaphores = objects::set_count(s.semaphores, j, count + 1);
+        return answers::answer(s, 0, 0);
+    }
+    let flags = waits::only(best);
+    let t = s.tasks;
+    let tasks = waits::end_where(t, flags, GRANTED, GRANTED);
+    s.tasks = tasks;
+    s.waiting = task_lists::keep_flagged(s.waiting, flags, 0);
+    let levels = tasks.level;
+    let ready = task_lists::insert_flagged(s.ready, levels, flags, tasks.n);
+    let turn = settle::dispatch(s.started, ready, levels, s.running, s.hold);
+    let queue = turn.ready;
+    s.ready = queue;
+    s.running = turn.running;
+    answers::answer(s, 0, 0)
 }
 
-pub fn flush(s: State, k: u32) -> Out
+pub fn flush(mut s: State, k: u32) -> Out
     ensures { λ r. ⌜ r ≡ flushStep s k ⌝ }
 {
     if s.started == 0 {
@@ -83,7 +90,15 @@ pub fn flush(s: State, k: u32) -> Out
         return answers::answer(s, 6, 0);
     }
     let flags = waits::waiter_flags(s.tasks, ON_SEMAPHORE, k as u8);
-    let r = settle::wake(s, flags, FLUSHED, FLUSHED);
-    let d = settle::dispatch(settle::line_up(r, flags));
-    answers::answer(d, 0, 0)
+    let t = s.tasks;
+    let tasks = waits::end_where(t, flags, FLUSHED, FLUSHED);
+    s.tasks = tasks;
+    s.waiting = task_lists::keep_flagged(s.waiting, flags, 0);
+    let levels = tasks.level;
+    let ready = task_lists::insert_flagged(s.ready, levels, flags, tasks.n);
+    let turn = settle::dispatch(s.started, ready, levels, s.running, s.hold);
+    let queue = turn.ready;
+    s.ready = queue;
+    s.running = turn.running;
+    answers::answer(s, 0, 0)
 }

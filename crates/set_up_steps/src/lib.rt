@@ -24,11 +24,10 @@ pub fn task(mut s: State, priority: u32) -> Out
         return answers::answer(s, 8, 0);
     }
     let p = priority as u8;
-    let t = objects::add_task(s.tasks, p);
-    let levels = t.level;
-    let q = task_lists::insert(s.ready, levels, p as u16 + 1, id);
-    s.tasks = t;
-    s.ready = q;
+    let tasks = objects::add_task(s.tasks, p);
+    let levels = tasks.level;
+    s.ready = task_lists::insert(s.ready, levels, p as u16 + 1, id);
+    s.tasks = tasks;
     answers::answer(s, 0, id as u32)
 }
 
@@ -45,8 +44,7 @@ pub fn mutex(mut s: State, kind: u32) -> Out
     if MAX_MUTEXES <= id {
         return answers::answer(s, 8, 0);
     }
-    let m = objects::add_mutex(s.mutexes, kind as u8);
-    s.mutexes = m;
+    s.mutexes = objects::add_mutex(s.mutexes, kind as u8);
     answers::answer(s, 0, id as u32)
 }
 
@@ -66,8 +64,7 @@ pub fn sem(mut s: State, count: u32, maximum: u32) -> Out
     if MAX_SEMAPHORES <= id {
         return answers::answer(s, 8, 0);
     }
-    let c = objects::add_semaphore(s.semaphores, count, maximum);
-    s.semaphores = c;
+    s.semaphores = objects::add_semaphore(s.semaphores, count, maximum);
     answers::answer(s, 0, id as u32)
 }
 
@@ -78,6 +75,12 @@ pub fn start(mut s: State) -> Out
         return answers::answer(s, 4, 0);
     }
     s.started = 1;
-    let d = settle::dispatch(s);
-    answers::answer(d, 0, 0)
+    let t = s.tasks;
+    let levels = t.level;
+    let ready = s.ready;
+    let turn = settle::dispatch(s.started, ready, levels, s.running, s.hold);
+    let queue = turn.ready;
+    s.ready = queue;
+    s.running = turn.running;
+    answers::answer(s, 0, 0)
 }

@@ -1,13 +1,15 @@
-// After each accepted step: levels, the ready order, and who runs.
-mod flags;
+// After each accepted step: levels, the ready order, and who runs. Parts of the record come in and go out, never the whole of it.
+mod tables;
 
 ghost use mathlib.Core.Path.{_≡_};
 ghost use Prim.Native.Nat.{_<_};
-ghost use Rattle.machine.specs.Machine.{resettled, settled, restOf, displaced, dispatched, woke, lined, timedFor, dueFor, blockedOn};
-use record::FOREVER;
+ghost use Rattle.machine.specs.Machine.{resettled, orderOf, restOf, displaced, turnOf};
+use machine::Order;
+use machine::Turn;
+use record::Mutexes;
 use record::NONE;
-use record::State;
 use record::TASKS;
+use record::Tasks;
 use task_lists::TaskList;
 
 // The ready order by the new levels: those whose level changed, and then the woken ones, by id at the tail of their level.
@@ -15,10 +17,10 @@ use task_lists::TaskList;
 fn resettle(q: TaskList, old: [u8; TASKS], new: [u8; TASKS], woken: [u8; TASKS], n: u8) -> TaskList
     ensures { λ r. ⌜ r ≡ resettled q old new woken n ⌝ }
 {
-    let changed = flags::differ(old, new);
+    let changed = tables::differ(old, new);
     if waits::any_flag(changed) {
         let there = task_list_checks::count_in([0u8; TASKS], q);
-        let moved = flags::both(changed, there);
+        let moved = tables::both(changed, there);
         let stay = task_lists::keep_flagged(q, changed, 0);
         let back = task_lists::insert_flagged(stay, new, moved, n);
         return task_lists::insert_flagged(back, new, woken, n);
@@ -26,17 +28,17 @@ fn resettle(q: TaskList, old: [u8; TASKS], new: [u8; TASKS], woken: [u8; TASKS],
     task_lists::insert_flagged(q, new, woken, n)
 }
 
-// Levels are as defined, and the ready order follows them.
-pub fn settle(mut s: State, woken: [u8; TASKS]) -> State
-    ensures { λ r. ⌜ r ≡ settled s woken ⌝ }
+// Levels as defined, and the ready order that follows them.
+pub fn settle(t: Tasks, m: Mutexes, ready: TaskList, woken: [u8; TASKS]) -> Order
+    ensures { λ r. ⌜ r ≡ orderOf t m ready woken ⌝ }
 {
-    let old = s.tasks.level;
-    let new = leads::new_levels(s.tasks, s.mutexes);
-    s.ready = resettle(s.ready, old, new, woken, s.tasks.n);
-    let mut t = s.tasks;
-    t.level = new;
-    s.tasks = t;
-    s
+    let old = t.level;
+    let new = leads::new_levels(t, m);
+    let order = resettle(ready, old, new, woken, t.n);
+    Order {
+        level: new,
+        ready: order,
+    }
 }
 
 // The list without its first: only the used places move.
@@ -67,80 +69,36 @@ fn displace(q: TaskList, levels: [u8; TASKS], old: u8) -> TaskList
 }
 
 // "if nobody runs, the first ready task runs"; it displaces a running one only if hold is 0 and it is strictly more urgent.
-pub fn dispatch(mut s: State) -> State
-    ensures { λ r. ⌜ r ≡ dispatched s ⌝ }
+pub fn dispatch(started: u8, ready: TaskList, levels: [u8; TASKS], running: u8, hold: u8) -> Turn
+    ensures { λ r. ⌜ r ≡ turnOf started ready levels running hold ⌝ }
 {
-    if s.started == 0 {
-        return s;
+    let stay = Turn {
+        ready: ready,
+        running: running,
+    };
+    if started == 0 {
+        return stay;
     }
-    let q = s.ready;
-    if q.n == 0 {
-        return s;
+    if ready.n == 0 {
+        return stay;
     }
-    let x = q.ids[0];
-    if s.running == NONE {
-        s.ready = rest(q);
-        s.running = x;
-        return s;
+    let first = ready.ids[0];
+    if running == NONE {
+        let others = rest(ready);
+        return Turn {
+            ready: others,
+            running: first,
+        };
     }
-    if s.hold != 0 {
-        return s;
+    if hold != 0 {
+        return stay;
     }
-    let levels = s.tasks.level;
-    if task_lists::key_of(levels, x) < task_lists::key_of(levels, s.running) {
-        s.ready = displace(q, levels, s.running);
-        s.running = x;
-        return s;
+    if task_lists::key_of(levels, first) < task_lists::key_of(levels, running) {
+        let others = displace(ready, levels, running);
+        return Turn {
+            ready: others,
+            running: first,
+        };
     }
-    s
-}
-
-// The waits of the flagged tasks end.
-pub fn wake(mut s: State, flags: [u8; TASKS], slept: u8, other: u8) -> State
-    ensures { λ r. ⌜ r ≡ woke s flags slept other ⌝ }
-{
-    s.tasks = waits::end_where(s.tasks, flags, slept, other);
-    s.waiting = task_lists::keep_flagged(s.waiting, flags, 0);
-    s
-}
-
-// The flagged tasks become ready, no level having changed.
-pub fn line_up(mut s: State, flags: [u8; TASKS]) -> State
-    ensures { λ r. ⌜ r ≡ lined s flags ⌝ }
-{
-    let levels = s.tasks.level;
-    s.ready = task_lists::insert_flagged(s.ready, levels, flags, s.tasks.n);
-    s
-}
-
-// 1 for a wait that ends at a time.
-fn timed_for(time: u32) -> u8
-    ensures { λ r. ⌜ r ≡ timedFor time ⌝ }
-{
-    if time == FOREVER {
-        return 0;
-    }
-    1
-}
-
-// The clock at which a wait ends that begins now; 0 where it ends at no time.
-fn due_for(clock: u32, time: u32) -> u32
-    ensures { λ r. ⌜ r ≡ dueFor clock time ⌝ }
-{
-    if time == FOREVER {
-        return 0;
-    }
-    waits::due_at(clock, time)
-}
-
-// Task `id` begins to wait, and nobody runs.
-pub fn block(mut s: State, id: u8, kind: u8, object: u8, time: u32) -> State
-    ensures { λ r. ⌜ r ≡ blockedOn s id kind object time ⌝ }
-{
-    let timed = timed_for(time);
-    let due = due_for(s.clock, time);
-    s.tasks = waits::begin_wait(s.tasks, id, kind, object, timed, due);
-    s.waiting = task_lists::push(s.waiting, id);
-    s.running = NONE;
-    s
+    stay
 }

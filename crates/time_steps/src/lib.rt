@@ -3,6 +3,7 @@ ghost use mathlib.Core.Path.{_≡_};
 ghost use Rattle.machine.specs.Machine.{tickStep, sleepStep};
 use record::GRANTED;
 use record::MAX_TICKS;
+use record::NONE;
 use record::ON_TIME;
 use record::Out;
 use record::State;
@@ -10,7 +11,7 @@ use record::TIMED_OUT;
 use replies::answers;
 use replies::refusals;
 
-pub fn sleep(s: State, time: u32) -> Out
+pub fn sleep(mut s: State, time: u32) -> Out
     ensures { λ r. ⌜ r ≡ sleepStep s time ⌝ }
 {
     let not_now = refusals::of_caller(s.started, s.running);
@@ -26,9 +27,16 @@ pub fn sleep(s: State, time: u32) -> Out
     if s.hold != 0 {
         return answers::answer(s, 11, 0);
     }
-    let b = settle::block(s, s.running, ON_TIME, 0, time);
-    let d = settle::dispatch(b);
-    answers::answer(d, 1, 0)
+    let tasks = waits::begin_wait(s.tasks, s.running, ON_TIME, 0, s.clock, time);
+    s.tasks = tasks;
+    s.waiting = task_lists::push(s.waiting, s.running);
+    let levels = tasks.level;
+    let ready = s.ready;
+    let turn = settle::dispatch(s.started, ready, levels, NONE, s.hold);
+    let queue = turn.ready;
+    s.ready = queue;
+    s.running = turn.running;
+    answers::answer(s, 1, 0)
 }
 
 pub fn tick(mut s: State) -> Out
@@ -39,12 +47,23 @@ pub fn tick(mut s: State) -> Out
     }
     let clock = waits::due_at(s.clock, 1);
     let flags = waits::due_flags(s.tasks, s.clock);
-    if waits::any_flag(flags) {
-        let mut r = settle::wake(s, flags, GRANTED, TIMED_OUT);
-        r.clock = clock;
-        let d = settle::dispatch(settle::settle(r, flags));
-        return answers::answer(d, 0, 0);
-    }
     s.clock = clock;
+    if !waits::any_flag(flags) {
+        return answers::answer(s, 0, 0);
+    }
+    let t = s.tasks;
+    let mut tasks = waits::end_where(t, flags, GRANTED, TIMED_OUT);
+    s.waiting = task_lists::keep_flagged(s.waiting, flags, 0);
+    let mutexes = s.mutexes;
+    let q = s.ready;
+    let order = settle::settle(tasks, mutexes, q, flags);
+    let levels = order.level;
+    let ready = order.ready;
+    tasks.level = levels;
+    s.tasks = tasks;
+    let turn = settle::dispatch(s.started, ready, levels, s.running, s.hold);
+    let queue = turn.ready;
+    s.ready = queue;
+    s.running = turn.running;
     answers::answer(s, 0, 0)
 }

@@ -6,7 +6,8 @@ ghost use Rattle.lists.specs.Table.{filled};
 ghost use Rattle.rules.specs.Sizes.{taskPlaces};
 ghost use Rattle.task_lists.specs.TaskList.{bestOf};
 ghost use Rattle.record.specs.Record.{dueAt};
-ghost use Rattle.machine.specs.Machine.{waitBegun, endedWhere, single, dueNow, dueFlag, waitsOn, waiterFlag, anyFlag};
+ghost use Rattle.machine.specs.Machine.{timedFor, dueFor, waitBegun, endedWhere, single, dueNow, dueFlag, waitsOn, waiterFlag, anyFlag};
+use record::FOREVER;
 use record::PENDING;
 use record::TASKS;
 use record::Tasks;
@@ -20,14 +21,36 @@ pub fn due_at(clock: u32, ticks: u32) -> u32
     std::num::wrapping_add_u32(clock, ticks)
 }
 
-// Task `i` begins to wait.
-pub fn begin_wait(mut t: Tasks, i: u8, kind: u8, object: u8, timed: u8, due: u32) -> Tasks
-    ensures { λ r. ⌜ r ≡ waitBegun t i kind object timed due ⌝ }
+// 1 for a wait that ends at a time.
+fn timed_for(time: u32) -> u8
+    ensures { λ r. ⌜ r ≡ timedFor time ⌝ }
+{
+    if time == FOREVER {
+        return 0;
+    }
+    1
+}
+
+// The clock at which a wait ends that begins now; 0 where it ends at no time.
+fn due_for(clock: u32, time: u32) -> u32
+    ensures { λ r. ⌜ r ≡ dueFor clock time ⌝ }
+{
+    if time == FOREVER {
+        return 0;
+    }
+    due_at(clock, time)
+}
+
+// Task `i` begins to wait, for so long from this clock on.
+pub fn begin_wait(mut t: Tasks, i: u8, kind: u8, object: u8, clock: u32, time: u32) -> Tasks
+    ensures { λ r. ⌜ r ≡ waitBegun t i kind object (timedFor time) (dueFor clock time) ⌝ }
 {
     let j = i as usize;
     if TASKS <= j {
         return t;
     }
+    let timed = timed_for(time);
+    let due = due_for(clock, time);
     t.wait[j] = kind;
     t.object[j] = object;
     t.timed[j] = timed;

@@ -1,7 +1,16 @@
 -- `mutex_steps::unlock` meets its contract.
 use borrow.Author.Needs.{needs}
+use mathlib.Core.Path.{ap, sym, _∙_}
+use mathlib.Core.List.{List}
+use Prim.Native.Nat.{ℕ}
 use borrow.Author.Tests.{eq-eqb, le-leb, lt-leb, ne-eqb}
-use Rattle.machine.specs.Machine.{calledBy, unlockStep}
+use Rattle.rules.specs.Sizes.{granted}
+use Rattle.record.specs.Setters.{putTasks, putMutexes, putWaiting}
+use Rattle.record.specs.declared.State.{State}
+use Rattle.record.specs.declared.Mutexes.{Mutexes}
+use Rattle.machine.specs.Machine.{ownerSet, answerIn, settled, dispatched, woke, calledBy, unlockStep}
+use Rattle.machine.specs.PartLaws.{settled-parts, woken-parts}
+use Rattle.mutex_steps.proofs.Laws.{frees, passes}
 use Rattle.mutex_steps.proofs.unlock.Statement.{statement}
 use Rattle.mutex_steps.proofs.unlock.Tie as tie
 
@@ -41,15 +50,55 @@ returns-3 c = simp (c .answer3 .ensures, ← c .before .before .before .owner-at
 best-for-requires : tie.Need-best-for-requires
 best-for-requires c κs = search needs
 
-pass-requires : tie.Need-pass-requires
-pass-requires c κs = search needs
+set-owner-requires : tie.Need-set-owner-requires
+set-owner-requires c κs = search needs
 
 answer-requires-4 : tie.Need-answer-requires-4
 answer-requires-4 c κs = search needs
 
 returns-4 : tie.Need-returns-4
-unfolding unlockStep calledBy
-returns-4 c = simp (c .answer4 .ensures, c .before .pass .ensures, ← c .before .before .best-for .ensures, ← c .before .before .before .before .before .owner-at .ensures, eq-eqb _ _ (c .before .before .before .if3 .left), lt-leb _ _ (c .before .before .before .before .before .before .if2 .left), ← c .before .before .before .before .before .before .before .before .before .of-caller .ensures, eq-eqb _ _ (c .before .before .before .before .before .before .before .before .if1 .left))
+returns-4 c =
+    let a = c .before .before .before .before .before .before .before .before .before .before .before .args in
+    let k = a .s in
+    let best = c .before .before .before .best-for in
+    let none = c .before .if4 .taken in
+    c .answer4 .ensures ∙ ap (λ (m : Mutexes). answerIn (putMutexes k m) 0 0) (c .before .before .set-owner .ensures ∙ ap (ownerSet (k .mutexes) (a .m)) none)
+    ∙ sym (frees k (a .m) (rw (← c .before .before .before .before .before .before .before .before .before .before .of-caller .ensures) (eq-eqb _ _ (c .before .before .before .before .before .before .before .before .before .if1 .left))) (lt-leb _ _ (c .before .before .before .before .before .before .before .if2 .left)) (rw (← c .before .before .before .before .before .before .owner-at .ensures) (eq-eqb _ _ (c .before .before .before .before .if3 .left))) (rw (← best .ensures) (eq-eqb _ _ none)))
+
+only-requires : tie.Need-only-requires
+only-requires c κs = search needs
+
+end-where-requires : tie.Need-end-where-requires
+end-where-requires c κs = search needs
+
+keep-flagged-requires : tie.Need-keep-flagged-requires
+keep-flagged-requires c κs = search needs
+
+settle-requires : tie.Need-settle-requires
+settle-requires c κs = search needs
+
+dispatch-requires : tie.Need-dispatch-requires
+dispatch-requires c κs = search needs
+
+answer-requires-5 : tie.Need-answer-requires-5
+answer-requires-5 c κs = search needs
+
+returns-5 : tie.Need-returns-5
+returns-5 c =
+    let a = c .before .before .before .before .before .before .before .before .before .before .before .before .before .before .before .before .before .before .before .before .before .args in
+    let k = a .s in
+    let best = c .before .before .before .before .before .before .before .before .before .before .before .before .before .best-for in
+    let w = best .result in
+    let flags = c .before .before .before .before .before .before .before .before .before .before .only in
+    let m = c .before .before .before .before .before .before .before .before .before .before .before .before .set-owner in
+    let t = c .before .before .before .before .before .before .before .before .end-where in
+    let q = c .before .before .before .before .before .before .before .keep-flagged in
+    let woken = putWaiting (putTasks (putMutexes k (m .result)) (t .result)) (q .result) in
+    c .answer5 .ensures
+    ∙ ap (λ (z : State). answerIn z 0 0) (settled-parts woken (flags .result) (c .before .before .before .before .before .settle .result) (c .before .before .dispatch .result) (c .before .before .before .before .before .settle .ensures) (c .before .before .dispatch .ensures)
+    ∙ ap (λ (z : State). dispatched (settled z (flags .result))) (woken-parts k (flags .result) granted granted (m .result) (ownerSet (k .mutexes) (a .m) w) (t .result) (q .result) (m .ensures) (t .ensures) (q .ensures))
+    ∙ ap (λ (f : List ℕ). dispatched (settled (putMutexes (woke k f granted granted) (ownerSet (k .mutexes) (a .m) w)) f)) (flags .ensures))
+    ∙ sym (passes k (a .m) (rw (← c .before .before .before .before .before .before .before .before .before .before .before .before .before .before .before .before .before .before .before .before .of-caller .ensures) (eq-eqb _ _ (c .before .before .before .before .before .before .before .before .before .before .before .before .before .before .before .before .before .before .before .if1 .left))) (lt-leb _ _ (c .before .before .before .before .before .before .before .before .before .before .before .before .before .before .before .before .before .if2 .left)) (rw (← c .before .before .before .before .before .before .before .before .before .before .before .before .before .before .before .before .owner-at .ensures) (eq-eqb _ _ (c .before .before .before .before .before .before .before .before .before .before .before .before .before .before .if3 .left))) w (best .ensures) (ne-eqb _ _ (c .before .before .before .before .before .before .before .before .before .before .before .if4 .left)))
 
 pub unlock-spec : {M : Type 1} → statement M
 unlock-spec =
@@ -66,6 +115,13 @@ unlock-spec =
     answer-requires-3
     returns-3
     best-for-requires
-    pass-requires
+    set-owner-requires
     answer-requires-4
-    returns-4)
+    returns-4
+    only-requires
+    end-where-requires
+    keep-flagged-requires
+    settle-requires
+    dispatch-requires
+    answer-requires-5
+    returns-5)

@@ -1,7 +1,7 @@
 -- `plain_steps::free` meets its contract.
 use borrow.Author.Needs.{needs}
 use borrow.Author.Tests.{eq-eqb, ne-eqb}
-use Rattle.machine.specs.Machine.{calledBy, freeStep}
+use Rattle.machine.specs.Machine.{calledBy, dispatched, freeStep}
 use Rattle.plain_steps.proofs.free.Statement.{statement}
 use Rattle.plain_steps.proofs.free.Tie as tie
 
@@ -32,8 +32,8 @@ answer-requires-3 : tie.Need-answer-requires-3
 answer-requires-3 c κs = search needs
 
 returns-3 : tie.Need-returns-3
-unfolding freeStep calledBy
-returns-3 c = simp (c .answer3 .ensures, c .before .dispatch .ensures, ne-eqb _ _ (c .before .before .before .if2 .left), ← c .before .before .before .before .before .before .of-caller .ensures, eq-eqb _ _ (c .before .before .before .before .before .if1 .left))
+unfolding freeStep calledBy dispatched
+returns-3 c = simp (c .answer3 .ensures, c .before .before .dispatch .ensures, ne-eqb _ _ (c .before .before .before .before .before .before .before .if2 .left), ← c .before .before .before .before .before .before .before .before .before .before .of-caller .ensures, eq-eqb _ _ (c .before .before .before .before .before .before .before .before .before .if1 .left))
 
 pub free-spec : {M : Type 1} → statement M
 free-spec =

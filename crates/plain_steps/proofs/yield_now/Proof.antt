@@ -1,7 +1,7 @@
 -- `plain_steps::yield_now` meets its contract.
 use borrow.Author.Needs.{needs}
 use borrow.Author.Tests.{eq-eqb, ne-eqb}
-use Rattle.machine.specs.Machine.{calledBy, yieldStep}
+use Rattle.machine.specs.Machine.{calledBy, dispatched, yieldStep}
 use Rattle.plain_steps.proofs.yield_now.Statement.{statement}
 use Rattle.plain_steps.proofs.yield_now.Tie as tie
 
@@ -41,8 +41,8 @@ answer-requires-3 : tie.Need-answer-requires-3
 answer-requires-3 c κs = search needs
 
 returns-3 : tie.Need-returns-3
-unfolding yieldStep calledBy
-returns-3 c = simp (c .answer3 .ensures, c .before .dispatch .ensures, c .before .before .insert .ensures, ← c .before .before .before .key-of .ensures, eq-eqb _ _ (c .before .before .before .before .before .before .if2 .left), ← c .before .before .before .before .before .before .before .before .before .of-caller .ensures, eq-eqb _ _ (c .before .before .before .before .before .before .before .before .if1 .left))
+unfolding yieldStep calledBy dispatched
+returns-3 c = simp (c .answer3 .ensures, c .before .before .dispatch .ensures, c .before .before .before .insert .ensures, c .before .before .before .before .key-of .ensures, eq-eqb _ _ (c .before .before .before .before .before .before .before .if2 .left), ← c .before .before .before .before .before .before .before .before .before .before .of-caller .ensures, eq-eqb _ _ (c .before .before .before .before .before .before .before .before .before .if1 .left))
 
 pub yield-now-spec : {M : Type 1} → statement M
 yield-now-spec =

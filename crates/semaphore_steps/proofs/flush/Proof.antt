@@ -1,7 +1,7 @@
 -- `semaphore_steps::flush` meets its contract.
 use borrow.Author.Needs.{needs}
 use borrow.Author.Tests.{eq-eqb, le-leb, lt-leb, ne-eqb}
-use Rattle.machine.specs.Machine.{flushStep}
+use Rattle.machine.specs.Machine.{dispatched, lined, woke, flushStep}
 use Rattle.semaphore_steps.proofs.flush.Statement.{statement}
 use Rattle.semaphore_steps.proofs.flush.Tie as tie
 
@@ -28,11 +28,14 @@ cast-waiter-flags c = search needs
 waiter-flags-requires : tie.Need-waiter-flags-requires
 waiter-flags-requires c κs = search needs
 
-wake-requires : tie.Need-wake-requires
-wake-requires c κs = search needs
+end-where-requires : tie.Need-end-where-requires
+end-where-requires c κs = search needs
 
-line-up-requires : tie.Need-line-up-requires
-line-up-requires c κs = search needs
+keep-flagged-requires : tie.Need-keep-flagged-requires
+keep-flagged-requires c κs = search needs
+
+insert-flagged-requires : tie.Need-insert-flagged-requires
+insert-flagged-requires c κs = search needs
 
 dispatch-requires : tie.Need-dispatch-requires
 dispatch-requires c κs = search needs
@@ -41,8 +44,8 @@ answer-requires-3 : tie.Need-answer-requires-3
 answer-requires-3 c κs = search needs
 
 returns-3 : tie.Need-returns-3
-unfolding flushStep
-returns-3 c = simp (c .answer3 .ensures, c .before .dispatch .ensures, c .before .before .line-up .ensures, c .before .before .before .wake .ensures, c .before .before .before .before .waiter-flags .ensures, lt-leb _ _ (c .before .before .before .before .before .if2 .left), ne-eqb _ _ (c .before .before .before .before .before .before .before .if1 .left))
+unfolding flushStep dispatched lined woke
+returns-3 c = simp (c .answer3 .ensures, c .before .before .dispatch .ensures, c .before .before .before .insert-flagged .ensures, c .before .before .before .before .before .keep-flagged .ensures, c .before .before .before .before .before .before .end-where .ensures, c .before .before .before .before .before .before .before .before .waiter-flags .ensures, lt-leb _ _ (c .before .before .before .before .before .before .before .before .before .if2 .left), ne-eqb _ _ (c .before .before .before .before .before .before .before .before .before .before .before .if1 .left))
 
 pub flush-spec : {M : Type 1} → statement M
 flush-spec =
@@ -55,8 +58,9 @@ flush-spec =
     returns-2
     cast-waiter-flags
     waiter-flags-requires
-    wake-requires
-    line-up-requires
+    end-where-requires
+    keep-flagged-requires
+    insert-flagged-requires
     dispatch-requires
     answer-requires-3
     returns-3)

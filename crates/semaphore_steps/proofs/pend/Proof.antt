@@ -1,8 +1,8 @@
 -- `semaphore_steps::pend` meets its contract.
 use borrow.Author.Needs.{needs}
+use mathlib.Core.Path.{refl}
 use borrow.Author.Tests.{eq-eqb, le-leb, lt-leb, ne-eqb, not-false, not-true}
-use mathlib.Core.Path.{_∙_}
-use Rattle.machine.specs.Machine.{calledBy, mayWait, pendStep}
+use Rattle.machine.specs.Machine.{calledBy, mayWait, dispatched, blockedOn, pendStep}
 use Rattle.semaphore_steps.proofs.pend.Statement.{statement}
 use Rattle.semaphore_steps.proofs.pend.Tie as tie
 
@@ -53,7 +53,7 @@ answer-requires-4 c κs = search needs
 
 returns-4 : tie.Need-returns-4
 unfolding pendStep calledBy
-returns-4 c = c .answer4 .ensures ∙ rw (c .before .set-count .ensures, ← c .before .before .before .count-at .ensures, ← c .before .before .before .before .before .is-time .ensures, ne-eqb _ _ (c .before .before .if4 .taken), not-false (c .before .before .before .before .before .is-time .result) (c .before .before .before .before .if3 .left), lt-leb _ _ (c .before .before .before .before .before .before .if2 .left), ← c .before .before .before .before .before .before .before .before .before .of-caller .ensures, eq-eqb _ _ (c .before .before .before .before .before .before .before .before .if1 .left))
+returns-4 c = simp (c .answer4 .ensures, c .before .set-count .ensures, ← c .before .before .before .count-at .ensures, ← c .before .before .before .before .before .is-time .ensures, ne-eqb _ _ (c .before .before .if4 .taken), not-false (c .before .before .before .before .before .is-time .result) (c .before .before .before .before .if3 .left), lt-leb _ _ (c .before .before .before .before .before .before .if2 .left), ← c .before .before .before .before .before .before .before .before .before .of-caller .ensures, eq-eqb _ _ (c .before .before .before .before .before .before .before .before .if1 .left))
 
 of-wait-requires : tie.Need-of-wait-requires
 of-wait-requires c κs = search needs
@@ -65,8 +65,11 @@ returns-5 : tie.Need-returns-5
 unfolding pendStep calledBy mayWait
 returns-5 c = simp (c .answer5 .ensures, ← c .before .before .of-wait .ensures, ne-eqb _ _ (c .before .if5 .taken), ← c .before .before .before .before .count-at .ensures, ← c .before .before .before .before .before .before .is-time .ensures, eq-eqb _ _ (c .before .before .before .if4 .left), not-false (c .before .before .before .before .before .before .is-time .result) (c .before .before .before .before .before .if3 .left), lt-leb _ _ (c .before .before .before .before .before .before .before .if2 .left), ← c .before .before .before .before .before .before .before .before .before .before .of-caller .ensures, eq-eqb _ _ (c .before .before .before .before .before .before .before .before .before .if1 .left))
 
-block-requires : tie.Need-block-requires
-block-requires c κs = search needs
+begin-wait-requires : tie.Need-begin-wait-requires
+begin-wait-requires c κs = search needs
+
+push-requires : tie.Need-push-requires
+push-requires c κs = search needs
 
 dispatch-requires : tie.Need-dispatch-requires
 dispatch-requires c κs = search needs
@@ -75,8 +78,8 @@ answer-requires-6 : tie.Need-answer-requires-6
 answer-requires-6 c κs = search needs
 
 returns-6 : tie.Need-returns-6
-unfolding pendStep calledBy mayWait
-returns-6 c = simp (c .answer6 .ensures, c .before .dispatch .ensures, c .before .before .block .ensures, ← c .before .before .before .before .of-wait .ensures, eq-eqb _ _ (c .before .before .before .if5 .left), ← c .before .before .before .before .before .before .count-at .ensures, ← c .before .before .before .before .before .before .before .before .is-time .ensures, eq-eqb _ _ (c .before .before .before .before .before .if4 .left), not-false (c .before .before .before .before .before .before .before .before .is-time .result) (c .before .before .before .before .before .before .before .if3 .left), lt-leb _ _ (c .before .before .before .before .before .before .before .before .before .if2 .left), ← c .before .before .before .before .before .before .before .before .before .before .before .before .of-caller .ensures, eq-eqb _ _ (c .before .before .before .before .before .before .before .before .before .before .before .if1 .left))
+unfolding pendStep calledBy mayWait dispatched blockedOn
+returns-6 c = rw (c .answer6 .ensures, c .before .before .dispatch .ensures, c .before .before .before .before .before .push .ensures, c .before .before .before .before .before .before .begin-wait .ensures, ← c .before .before .before .before .before .before .before .before .of-wait .ensures, eq-eqb _ _ (c .before .before .before .before .before .before .before .if5 .left), ← c .before .before .before .before .before .before .before .before .before .before .count-at .ensures, ← c .before .before .before .before .before .before .before .before .before .before .before .before .is-time .ensures, eq-eqb _ _ (c .before .before .before .before .before .before .before .before .before .if4 .left), not-false (c .before .before .before .before .before .before .before .before .before .before .before .before .is-time .result) (c .before .before .before .before .before .before .before .before .before .before .before .if3 .left), lt-leb _ _ (c .before .before .before .before .before .before .before .before .before .before .before .before .before .if2 .left), ← c .before .before .before .before .before .before .before .before .before .before .before .before .before .before .before .before .of-caller .ensures, eq-eqb _ _ (c .before .before .before .before .before .before .before .before .before .before .before .before .before .before .before .if1 .left)) refl
 
 pub pend-spec : {M : Type 1} → statement M
 pend-spec =
@@ -100,7 +103,8 @@ pend-spec =
     of-wait-requires
     answer-requires-5
     returns-5
-    block-requires
+    begin-wait-requires
+    push-requires
     dispatch-requires
     answer-requires-6
     returns-6)

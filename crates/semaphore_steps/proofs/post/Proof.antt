@@ -1,7 +1,7 @@
 -- `semaphore_steps::post` meets its contract.
 use borrow.Author.Needs.{needs}
 use borrow.Author.Tests.{eq-eqb, le-leb, lt-leb, ne-eqb}
-use Rattle.machine.specs.Machine.{postStep}
+use Rattle.machine.specs.Machine.{dispatched, lined, woke, creditStep, postStep}
 use Rattle.semaphore_steps.proofs.post.Statement.{statement}
 use Rattle.semaphore_steps.proofs.post.Tie as tie
 
@@ -28,12 +28,53 @@ cast-j c = search needs
 best-for-requires : tie.Need-best-for-requires
 best-for-requires c κs = search needs
 
-credit-requires : tie.Need-credit-requires
-credit-requires c κs = search needs
+count-at-requires : tie.Need-count-at-requires
+count-at-requires c κs = search needs
+
+maximum-at-requires : tie.Need-maximum-at-requires
+maximum-at-requires c κs = search needs
+
+answer-requires-3 : tie.Need-answer-requires-3
+answer-requires-3 c κs = search needs
 
 returns-3 : tie.Need-returns-3
-unfolding postStep
-returns-3 c = simp (c .credit .ensures, ← c .before .best-for .ensures, lt-leb _ _ (c .before .before .if2 .left), ne-eqb _ _ (c .before .before .before .before .if1 .left))
+unfolding postStep creditStep
+returns-3 c = simp (c .answer3 .ensures, ← c .before .before .before .before .before .best-for .ensures, ← c .before .before .maximum-at .ensures, ← c .before .before .before .count-at .ensures, le-leb _ _ (c .before .if4 .taken), eq-eqb _ _ (c .before .before .before .before .if3 .taken), lt-leb _ _ (c .before .before .before .before .before .before .if2 .left), ne-eqb _ _ (c .before .before .before .before .before .before .before .before .if1 .left))
+
+add-set-count : tie.Need-add-set-count
+add-set-count c = search needs
+
+set-count-requires : tie.Need-set-count-requires
+set-count-requires c κs = search needs
+
+answer-requires-4 : tie.Need-answer-requires-4
+answer-requires-4 c κs = search needs
+
+returns-4 : tie.Need-returns-4
+unfolding postStep creditStep
+returns-4 c = simp (c .answer4 .ensures, c .before .set-count .ensures, ← c .before .before .before .before .before .before .best-for .ensures, ← c .before .before .before .maximum-at .ensures, ← c .before .before .before .before .count-at .ensures, lt-leb _ _ (c .before .before .if4 .left), eq-eqb _ _ (c .before .before .before .before .before .if3 .taken), lt-leb _ _ (c .before .before .before .before .before .before .before .if2 .left), ne-eqb _ _ (c .before .before .before .before .before .before .before .before .before .if1 .left))
+
+only-requires : tie.Need-only-requires
+only-requires c κs = search needs
+
+end-where-requires : tie.Need-end-where-requires
+end-where-requires c κs = search needs
+
+keep-flagged-requires : tie.Need-keep-flagged-requires
+keep-flagged-requires c κs = search needs
+
+insert-flagged-requires : tie.Need-insert-flagged-requires
+insert-flagged-requires c κs = search needs
+
+dispatch-requires : tie.Need-dispatch-requires
+dispatch-requires c κs = search needs
+
+answer-requires-5 : tie.Need-answer-requires-5
+answer-requires-5 c κs = search needs
+
+returns-5 : tie.Need-returns-5
+unfolding postStep creditStep dispatched lined woke
+returns-5 c = simp (c .answer5 .ensures, c .before .before .dispatch .ensures, c .before .before .before .insert-flagged .ensures, c .before .before .before .before .before .keep-flagged .ensures, c .before .before .before .before .before .before .end-where .ensures, c .before .before .before .before .before .before .before .before .only .ensures, ← c .before .before .before .before .before .before .before .before .before .before .best-for .ensures, ne-eqb _ _ (c .before .before .before .before .before .before .before .before .before .if3 .left), lt-leb _ _ (c .before .before .before .before .before .before .before .before .before .before .before .if2 .left), ne-eqb _ _ (c .before .before .before .before .before .before .before .before .before .before .before .before .before .if1 .left))
 
 pub post-spec : {M : Type 1} → statement M
 post-spec =
@@ -46,5 +87,18 @@ post-spec =
     returns-2
     cast-j
     best-for-requires
-    credit-requires
-    returns-3)
+    count-at-requires
+    maximum-at-requires
+    answer-requires-3
+    returns-3
+    add-set-count
+    set-count-requires
+    answer-requires-4
+    returns-4
+    only-requires
+    end-where-requires
+    keep-flagged-requires
+    insert-flagged-requires
+    dispatch-requires
+    answer-requires-5
+    returns-5)

@@ -1,7 +1,7 @@
 -- `set_up_steps::start` meets its contract.
 use borrow.Author.Needs.{needs}
 use borrow.Author.Tests.{eq-eqb, ne-eqb}
-use Rattle.machine.specs.Machine.{startStep}
+use Rattle.machine.specs.Machine.{dispatched, startStep}
 use Rattle.set_up_steps.proofs.start.Statement.{statement}
 use Rattle.set_up_steps.proofs.start.Tie as tie
 
@@ -19,8 +19,8 @@ answer-requires-2 : tie.Need-answer-requires-2
 answer-requires-2 c κs = search needs
 
 returns-2 : tie.Need-returns-2
-unfolding startStep
-returns-2 c = simp (c .answer2 .ensures, c .before .dispatch .ensures, eq-eqb _ _ (c .before .before .if1 .left))
+unfolding startStep dispatched
+returns-2 c = simp (c .answer2 .ensures, c .before .before .dispatch .ensures, eq-eqb _ _ (c .before .before .before .before .before .before .if1 .left))
 
 pub start-spec : {M : Type 1} → statement M
 start-spec =

@@ -1,6 +1,7 @@
--- `settle::settle` meets its contract.
+-- `settle::settle` meets its contract. Assumes nothing.
 use borrow.Author.Needs.{needs}
-use Rattle.machine.specs.Machine.{settled}
+use mathlib.Core.Path.{refl}
+use Rattle.machine.specs.Machine.{orderOf}
 use Rattle.settle.proofs.settle.Statement.{statement}
 use Rattle.settle.proofs.settle.Tie as tie
 
@@ -11,8 +12,8 @@ resettle-requires : tie.Need-resettle-requires
 resettle-requires c κs = search needs
 
 returns : tie.Need-returns
-unfolding settled
-returns c = simp (c .before .resettle .ensures, c .before .before .new-levels .ensures)
+unfolding orderOf
+returns c = rw (c .resettle .ensures, c .before .new-levels .ensures) refl
 
 pub settle-spec : {M : Type 1} → statement M
 settle-spec = tie.close (tie.spec new-levels-requires resettle-requires returns)

@@ -1,7 +1,7 @@
 -- `time_steps::sleep` meets its contract.
 use borrow.Author.Needs.{needs}
 use borrow.Author.Tests.{eq-eqb, le-ltb, lt-ltb, ne-eqb}
-use Rattle.machine.specs.Machine.{calledBy, sleepStep}
+use Rattle.machine.specs.Machine.{calledBy, dispatched, blockedOn, sleepStep}
 use Rattle.time_steps.proofs.sleep.Statement.{statement}
 use Rattle.time_steps.proofs.sleep.Tie as tie
 
@@ -36,8 +36,11 @@ returns-4 : tie.Need-returns-4
 unfolding sleepStep calledBy
 returns-4 c = simp (c .answer4 .ensures, ne-eqb _ _ (c .before .if4 .taken), le-ltb _ _ (c .before .before .before .if3 .left), ne-eqb _ _ (c .before .before .before .before .if2 .left), ← c .before .before .before .before .before .before .of-caller .ensures, eq-eqb _ _ (c .before .before .before .before .before .if1 .left))
 
-block-requires : tie.Need-block-requires
-block-requires c κs = search needs
+begin-wait-requires : tie.Need-begin-wait-requires
+begin-wait-requires c κs = search needs
+
+push-requires : tie.Need-push-requires
+push-requires c κs = search needs
 
 dispatch-requires : tie.Need-dispatch-requires
 dispatch-requires c κs = search needs
@@ -46,8 +49,8 @@ answer-requires-5 : tie.Need-answer-requires-5
 answer-requires-5 c κs = search needs
 
 returns-5 : tie.Need-returns-5
-unfolding sleepStep calledBy
-returns-5 c = simp (c .answer5 .ensures, c .before .dispatch .ensures, c .before .before .block .ensures, eq-eqb _ _ (c .before .before .before .if4 .left), le-ltb _ _ (c .before .before .before .before .before .if3 .left), ne-eqb _ _ (c .before .before .before .before .before .before .if2 .left), ← c .before .before .before .before .before .before .before .before .of-caller .ensures, eq-eqb _ _ (c .before .before .before .before .before .before .before .if1 .left))
+unfolding sleepStep calledBy dispatched blockedOn
+returns-5 c = simp (c .answer5 .ensures, c .before .before .dispatch .ensures, c .before .before .before .before .before .push .ensures, c .before .before .before .before .before .before .begin-wait .ensures, eq-eqb _ _ (c .before .before .before .before .before .before .before .if4 .left), le-ltb _ _ (c .before .before .before .before .before .before .before .before .before .if3 .left), ne-eqb _ _ (c .before .before .before .before .before .before .before .before .before .before .if2 .left), ← c .before .before .before .before .before .before .before .before .before .before .before .before .of-caller .ensures, eq-eqb _ _ (c .before .before .before .before .before .before .before .before .before .before .before .if1 .left))
 
 pub sleep-spec : {M : Type 1} → statement M
 sleep-spec =
@@ -62,7 +65,8 @@ sleep-spec =
     returns-3
     answer-requires-4
     returns-4
-    block-requires
+    begin-wait-requires
+    push-requires
     dispatch-requires
     answer-requires-5
     returns-5)

@@ -1,7 +1,7 @@
 -- `time_steps::tick` meets its contract.
 use borrow.Author.Needs.{needs}
-use borrow.Author.Tests.{eq-eqb, ne-eqb}
-use Rattle.machine.specs.Machine.{tickStep}
+use borrow.Author.Tests.{eq-eqb, ne-eqb, not-true, not-false}
+use Rattle.machine.specs.Machine.{settled, dispatched, woke, tickStep}
 use Rattle.time_steps.proofs.tick.Statement.{statement}
 use Rattle.time_steps.proofs.tick.Tie as tie
 
@@ -21,8 +21,18 @@ due-flags-requires c κs = search needs
 any-flag-requires : tie.Need-any-flag-requires
 any-flag-requires c κs = search needs
 
-wake-requires : tie.Need-wake-requires
-wake-requires c κs = search needs
+answer-requires-2 : tie.Need-answer-requires-2
+answer-requires-2 c κs = search needs
+
+returns-2 : tie.Need-returns-2
+unfolding tickStep
+returns-2 c = simp (c .answer2 .ensures, ← c .before .before .any-flag .ensures, ← c .before .before .before .due-flags .ensures, ← c .before .before .before .before .due-at .ensures, not-true (c .before .before .any-flag .result) (c .before .if2 .taken), ne-eqb _ _ (c .before .before .before .before .before .if1 .left))
+
+end-where-requires : tie.Need-end-where-requires
+end-where-requires c κs = search needs
+
+keep-flagged-requires : tie.Need-keep-flagged-requires
+keep-flagged-requires c κs = search needs
 
 settle-requires : tie.Need-settle-requires
 settle-requires c κs = search needs
@@ -30,19 +40,12 @@ settle-requires c κs = search needs
 dispatch-requires : tie.Need-dispatch-requires
 dispatch-requires c κs = search needs
 
-answer-requires-2 : tie.Need-answer-requires-2
-answer-requires-2 c κs = search needs
-
-returns-2 : tie.Need-returns-2
-unfolding tickStep
-returns-2 c = simp (c .answer2 .ensures, c .before .dispatch .ensures, c .before .before .settle .ensures, c .before .before .before .wake .ensures, ← c .before .before .before .before .before .any-flag .ensures, ← c .before .before .before .before .before .before .due-flags .ensures, ← c .before .before .before .before .before .before .before .due-at .ensures, c .before .before .before .before .if2 .taken, ne-eqb _ _ (c .before .before .before .before .before .before .before .before .if1 .left))
-
 answer-requires-3 : tie.Need-answer-requires-3
 answer-requires-3 c κs = search needs
 
 returns-3 : tie.Need-returns-3
-unfolding tickStep
-returns-3 c = simp (c .answer3 .ensures, ← c .before .before .any-flag .ensures, ← c .before .before .before .due-flags .ensures, ← c .before .before .before .before .due-at .ensures, c .before .if2 .left, ne-eqb _ _ (c .before .before .before .before .before .if1 .left))
+unfolding tickStep dispatched settled woke
+returns-3 c = simp (c .answer3 .ensures, c .before .before .dispatch .ensures, c .before .before .before .before .before .settle .ensures, c .before .before .before .before .before .before .before .before .keep-flagged .ensures, c .before .before .before .before .before .before .before .before .before .end-where .ensures, ← c .before .before .before .before .before .before .before .before .before .before .before .before .any-flag .ensures, ← c .before .before .before .before .before .before .before .before .before .before .before .before .before .due-flags .ensures, ← c .before .before .before .before .before .before .before .before .before .before .before .before .before .before .due-at .ensures, not-false (c .before .before .before .before .before .before .before .before .before .before .before .before .any-flag .result) (c .before .before .before .before .before .before .before .before .before .before .before .if2 .left), ne-eqb _ _ (c .before .before .before .before .before .before .before .before .before .before .before .before .before .before .before .if1 .left))
 
 pub tick-spec : {M : Type 1} → statement M
 tick-spec =
@@ -53,10 +56,11 @@ tick-spec =
     due-at-requires
     due-flags-requires
     any-flag-requires
-    wake-requires
-    settle-requires
-    dispatch-requires
     answer-requires-2
     returns-2
+    end-where-requires
+    keep-flagged-requires
+    settle-requires
+    dispatch-requires
     answer-requires-3
     returns-3)

@@ -9,6 +9,12 @@ returns : tie.Need-returns
 unfolding waitBegun
 returns c = simp (le-ltb _ _ (c .if1 .taken))
 
+timed-for-requires : tie.Need-timed-for-requires
+timed-for-requires c κs = search needs
+
+due-for-requires : tie.Need-due-for-requires
+due-for-requires c κs = search needs
+
 element-write-t : tie.Need-element-write-t
 element-write-t c = search needs
 
@@ -29,13 +35,15 @@ element-write-t-5 c = search needs
 
 returns-2 : tie.Need-returns-2
 unfolding waitBegun
-returns-2 c = simp (lt-ltb _ _ (c .if1 .left))
+returns-2 c = simp (c .due-for .ensures, c .before .timed-for .ensures, lt-ltb _ _ (c .before .before .if1 .left))
 
 pub begin-wait-spec : {M : Type 1} → statement M
 begin-wait-spec =
     tie.close
     (tie.spec
     returns
+    timed-for-requires
+    due-for-requires
     element-write-t
     element-write-t-2
     element-write-t-3

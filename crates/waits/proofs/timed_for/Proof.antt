@@ -1,8 +1,8 @@
--- `settle::timed_for` meets its contract. Assumes nothing.
+-- `waits::timed_for` meets its contract. Assumes nothing.
 use borrow.Author.Tests.{eq-eqb, ne-eqb}
 use Rattle.machine.specs.Machine.{timedFor}
-use Rattle.settle.proofs.timed_for.Statement.{statement}
-use Rattle.settle.proofs.timed_for.Tie as tie
+use Rattle.waits.proofs.timed_for.Statement.{statement}
+use Rattle.waits.proofs.timed_for.Tie as tie
 
 returns : tie.Need-returns
 unfolding timedFor

@@ -1,8 +1,8 @@
--- `settle::flags::both_flag` meets its contract.
+-- `settle::tables::both_flag` meets its contract.
 use borrow.Author.Tests.{eq-eqb, ne-eqb}
 use Rattle.machine.specs.Machine.{bothOnes}
-use Rattle.settle.proofs.flags.both_flag.Statement.{statement}
-use Rattle.settle.proofs.flags.both_flag.Tie as tie
+use Rattle.settle.proofs.tables.both_flag.Statement.{statement}
+use Rattle.settle.proofs.tables.both_flag.Tie as tie
 
 returns : tie.Need-returns
 unfolding bothOnes

@@ -1,4 +1,4 @@
--- `settle::flags::both` meets its contract.
+-- `settle::tables::both` meets its contract.
 use borrow.Author.Needs.{needs}
 use mathlib.Core.Path.{_≡_}
 use Prim.Native.Nat.{_-_, _≤_}
@@ -6,8 +6,8 @@ use native.Mathlib.Omega.{arith}
 use Rattle.machine.specs.Machine.{bothFlag}
 use Rattle.lists.specs.FillLaws.{fill-done, fill-more, fill-none, soFar}
 use Rattle.rules.specs.Sizes.{taskPlaces}
-use Rattle.settle.proofs.flags.both.Statement.{statement}
-use Rattle.settle.proofs.flags.both.Tie as tie
+use Rattle.settle.proofs.tables.both.Statement.{statement}
+use Rattle.settle.proofs.tables.both.Tie as tie
 
 abbrev Inv-loop : tie.InvT-loop
 Inv-loop a b f₀ i₀ f i = (i ≤ taskPlaces) × (f ≡ soFar taskPlaces (bothFlag a b) 0 i)

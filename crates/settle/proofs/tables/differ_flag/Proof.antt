@@ -1,8 +1,8 @@
--- `settle::flags::differ_flag` meets its contract.
+-- `settle::tables::differ_flag` meets its contract.
 use borrow.Author.Tests.{eq-eqb, ne-eqb}
 use Rattle.machine.specs.Machine.{differs}
-use Rattle.settle.proofs.flags.differ_flag.Statement.{statement}
-use Rattle.settle.proofs.flags.differ_flag.Tie as tie
+use Rattle.settle.proofs.tables.differ_flag.Statement.{statement}
+use Rattle.settle.proofs.tables.differ_flag.Tie as tie
 
 returns : tie.Need-returns
 unfolding differs

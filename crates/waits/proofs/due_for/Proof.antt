@@ -1,9 +1,9 @@
--- `settle::due_for` meets its contract. Assumes nothing.
+-- `waits::due_for` meets its contract. Assumes nothing.
 use borrow.Author.Needs.{needs}
 use borrow.Author.Tests.{eq-eqb, ne-eqb}
 use Rattle.machine.specs.Machine.{dueFor}
-use Rattle.settle.proofs.due_for.Statement.{statement}
-use Rattle.settle.proofs.due_for.Tie as tie
+use Rattle.waits.proofs.due_for.Statement.{statement}
+use Rattle.waits.proofs.due_for.Tie as tie
 
 returns : tie.Need-returns
 unfolding dueFor
