@@ -43,6 +43,15 @@ unusedIn t = allb taskPlaces (unusedAt (t .priority) (t .n)) and allb taskPlaces
 abbrev pub priorityAt : List ℕ → ℕ → Bool
 priorityAt priorities i = ltb (getD priorities i 0) levels
 
+-- the same for a used place, and an unused one holds 0: by flags of the used places
+abbrev pub priorityFitsBy : List ℕ → List ℕ → ℕ → Bool
+priorityFitsBy priorities used i = cond (eqb (getD used i 0) 1) (ltb (getD priorities i 0) levels) (eqb (getD priorities i 0) 0)
+
+-- the other columns' unused places hold 0: by flags of the used places
+unfoldable pub othersUnused : Tasks → List ℕ → Bool
+othersUnused t used = allb taskPlaces (unusedBy (t .level) used) and allb taskPlaces (unusedBy (t .outcome) used)
+    and allb taskPlaces (unusedBy (t .wait) used) and allb taskPlaces (unusedBy (t .object) used) and allb taskPlaces (unusedBy (t .timed) used)
+
 -- a task's wait: an object only for a wait on one, a time only for a wait
 unfoldable pub waitFits : ℕ → ℕ → ℕ → Bool
 waitFits kind object timed = leb kind onTime and (eqb object 0 or eqb kind onMutex or eqb kind onSemaphore) and leb timed 1 and (eqb timed 0 or not (eqb kind 0))

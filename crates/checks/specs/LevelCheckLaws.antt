@@ -4,36 +4,39 @@ use mathlib.Core.Path.{_≡_, refl, ap, sym, _∙_}
 use mathlib.Core.List.{List}
 use mathlib.Core.Bool.{true}
 use mathlib.Core.Option.{Option, none, some}
-use Prim.Native.Nat.{ℕ, _≤_, _<_}
+use Prim.Native.Nat.{ℕ, zero, suc, _≤_, _<_}
 use native.Mathlib.Omega.{arith}
 use native.Mathlib.Decide.{decLt}
+use lib.Dec.{eqb}
 use lib.ListN.{getD}
-use borrow.Author.Tests.{eqb-true, eq-eqb}
+use borrow.Author.Tests.{eqb-true, eq-eqb, not-true}
 use Rattle.lists.specs.Test.{allb, holds}
 use Rattle.lists.specs.Table.{filled}
 use Rattle.lists.specs.TestLaws.{none-some, all-true, true-all, same-test}
+use Rattle.lists.specs.TableLaws.{getD-filled}
 use Rattle.chains.specs.Chain.{end, endsb}
 use Rattle.chains.specs.Least.{least, Recursive}
 use Rattle.chains.specs.ChainLaws.{chain-short, true-ends}
 use Rattle.chains.specs.LeastLaws.{least-start}
-use Rattle.rules.specs.Sizes.{taskPlaces, maxMutexes}
+use Rattle.rules.specs.Sizes.{taskPlaces, maxMutexes, onMutex}
 use Rattle.rules.specs.Tables.{Tables, taskCount, priorityOf, waitOf, ownerOf}
 use Rattle.rules.specs.Levels.{ownerAwaited, ofWait, next, lends, levelIn}
 use Rattle.rules.specs.Sound.{noRingb}
 use Rattle.rules.specs.Invariant.{Facts}
 use Rattle.rules.specs.LevelLaws.{of-wait, owner-awaited, next-ended, level-recursive, level-only}
-use Rattle.task_lists.specs.TaskList.{keyOf}
-use Rattle.walks.specs.Walk.{taskAt, nextIn, lentBy}
+use Rattle.task_lists.specs.TaskList.{noId, keyOf}
+use Rattle.walks.specs.Walk.{taskAt, nextIn, lent, lentBy}
 use Rattle.walks.specs.WalkLaws.{ends-ext, least-ext, lent-ext}
 use Rattle.record.specs.Record.{viewTables}
 use Rattle.record.specs.SoundRecord.{tidyb, levelsb}
-use Rattle.record.specs.Reads.{nextAt, lendsAt}
+use Rattle.record.specs.Reads.{ledBy, noMutexAt, nextAt, heirAt, lendsAt}
 use Rattle.record.specs.GoodRecord.{Typed}
 use Rattle.record.specs.TidyLaws.{tasks-fit, mutexes-fit, unused-at}
 use Rattle.record.specs.ViewLaws.{stored-level, unused-owner, view-tasks, view-priority, view-wait-out, view-owner, next-same, lends-same}
 use Rattle.checks.specs.Checks.{ringless, sameAt, levelsIn}
 use Rattle.checks.specs.TableCheckLaws.{owner-read}
 use Rattle.record.specs.declared.State.{State}  -- keep
+use Rattle.record.specs.declared.Mutexes.{Mutexes}  -- keep
 
 -- the chain from nobody ends, with whatever fuel
 ends-none : (f : ℕ → Option ℕ) (n : ℕ) → endsb n f none ≡ true
@@ -119,3 +122,24 @@ module _ (k : State) (T : Typed k) (tidy : tidyb k ≡ true) where
           ∙ level-recursive (viewTables k) F i (omega (arith, view-tasks k T tidy))
           ∙ least-ext (taskCount (viewTables k)) (λ j. holds (lends (viewTables k) j) i) (levelIn (viewTables k)) (keyOf (k .tasks .level)) (priorityOf (viewTables k) i)
           (λ j q. sym (stored-level k e j (omega (arith, view-tasks k T tidy))))
+
+-- a wait for something else leads to nobody
+led-none : (mutexes waits objects : List ℕ) (i : ℕ) → noMutexAt waits i ≡ true → ledBy mutexes (getD waits i 0) (getD objects i 0) ≡ noId
+unfolding ledBy
+led-none mutexes waits objects i e = rw (not-true (eqb (getD waits i 0) onMutex) e) refl
+
+-- where nobody is lent anything, levels are own priorities
+lent-none : (own to level : List ℕ) (n : ℕ) → ((i : ℕ) → i < n → getD to i 0 ≡ noId) → lentBy own to level n ≡ own
+unfolding lentBy lent
+lent-none own to level zero h = refl
+lent-none own to level (suc n) h = rw (h n (omega arith), lent-none own to level n (λ i l. h i (omega arith))) refl
+
+-- so it is where nobody waits for a mutex
+pub levels-none : (own level waits objects : List ℕ) (m : Mutexes) → allb taskPlaces (noMutexAt waits) ≡ true
+    → levelsIn own level waits objects m ≡ allb taskPlaces (sameAt level own)
+unfolding levelsIn
+levels-none own level waits objects m e =
+    let heirs = filled maxMutexes (heirAt m) in
+    let to : ℕ → ℕ = λ i. ledBy heirs (getD waits i 0) (getD objects i 0) in
+    ap (λ (l : List ℕ). allb taskPlaces (sameAt level l)) (lent-none own (filled taskPlaces to) level taskPlaces
+    (λ i h. getD-filled taskPlaces to 0 i h ∙ led-none heirs waits objects i (all-true taskPlaces (noMutexAt waits) e i h)))

@@ -1,5 +1,5 @@
 -- Tests by flags and by tables made beforehand are the tests by counts and columns.
-use mathlib.Core.Path.{_≡_, refl, ap}
+use mathlib.Core.Path.{_≡_, refl, ap, _∙_}
 use mathlib.Core.Logic.{inl, inr}
 use mathlib.Core.List.{List}
 use mathlib.Core.Bool.{Bool, true, false, cond, not}
@@ -8,19 +8,58 @@ use native.Mathlib.Omega.{arith}
 use native.Mathlib.Decide.{decLt}
 use lib.Dec.{ltb, eqb}
 use lib.ListN.{length, getD, List·getD-eq-default}
-use borrow.Author.Tests.{lt-ltb, le-ltb}
+use borrow.Author.Tests.{eqb-true, lt-ltb, le-ltb}
 use Rattle.lists.specs.Test.{_and_, _or_, allb}
 use Rattle.lists.specs.Table.{filled}
-use Rattle.lists.specs.TestLaws.{which, all-same}
+use Rattle.lists.specs.TestLaws.{which, all-same, all-and}
 use Rattle.lists.specs.TableLaws.{read-any, getD-filled}
-use Rattle.rules.specs.Sizes.{taskPlaces, maxMutexes, maxSemaphores, onMutex, onSemaphore}
+use Rattle.rules.specs.Sizes.{taskPlaces, maxMutexes, maxSemaphores, levels, onMutex, onSemaphore}
 use Rattle.task_lists.specs.TaskList.{noId, usedPlaces, idFits, idFitsAt, idFitsBy}
 use Rattle.task_lists.specs.TaskListLaws.{used-flag}
 use Rattle.record.specs.Reads.{ledBy}
-use Rattle.checks.specs.Checks.{unusedAt, unusedBy, blockedBy, blockedAt, blockedFits, blockedFitsAt, emptyAt, atObject}
+use Rattle.checks.specs.Checks.{unusedAt, unusedBy, unusedIn, priorityAt, priorityFitsBy, othersUnused, waitFitsAt, timeFitsAt, outcomeFitsAt, tasksIn, blockedBy, blockedAt, blockedFits, blockedFitsAt, emptyAt, atObject}
+use Rattle.record.specs.declared.Tasks.{Tasks}  -- keep
 
 pub unused-same : (column : List ℕ) (n : ℕ) → allb taskPlaces (unusedBy column (usedPlaces n)) ≡ allb taskPlaces (unusedAt column n)
 unused-same column n = all-same _ _ _ _ refl (λ i h. ap (λ (b : Bool). b or eqb (getD column i 0) 0) (used-flag n i h))
+
+-- a priority that is 0 is in range
+priority-fits : (used x : ℕ) → cond (eqb used 1) (ltb x levels) (eqb x 0) ≡ (eqb used 1 or eqb x 0) and ltb x levels
+unfolding _and_ _or_
+priority-fits used x = elim (which (eqb used 1)) [
+  | inl e ↦ rw e refl
+  | inr e ↦ rw e (elim (which (eqb x 0)) [ inl u ↦ rw (u, eqb-true x 0 u) refl | inr u ↦ rw u refl ])
+]
+
+-- so the test of range and unused places together is the two tests
+priorities-fit : (column used : List ℕ) → allb taskPlaces (priorityFitsBy column used) ≡ allb taskPlaces (unusedBy column used) and allb taskPlaces (priorityAt column)
+priorities-fit column used =
+    all-same _ _ _ _ refl (λ i h. priority-fits (getD used i 0) (getD column i 0))
+    ∙ all-and taskPlaces (unusedBy column used) (priorityAt column)
+
+-- four tests in another order
+exchange : (u v p r : Bool) → (u and v) and p and r ≡ (u and p) and v and r
+unfolding _and_
+exchange true true p r = refl
+exchange true false true r = refl
+exchange true false false r = refl
+exchange false v p r = refl
+
+-- the tests of the tasks, with the unused places of the priorities among the tests of the priorities
+pub tasks-tested : (t : Tasks) (clock : ℕ) → tasksIn t clock ≡ allb taskPlaces (priorityFitsBy (t .priority) (usedPlaces (t .n))) and othersUnused t (usedPlaces (t .n))
+    and allb taskPlaces (waitFitsAt (t .wait) (t .object) (t .timed)) and allb taskPlaces (timeFitsAt (t .wait) (t .timed) (t .due) clock)
+    and allb taskPlaces (outcomeFitsAt (t .wait) (t .outcome))
+unfolding tasksIn unusedIn othersUnused
+tasks-tested t clock = rw (
+  priorities-fit (t .priority) (usedPlaces (t .n)),
+  unused-same (t .priority) (t .n),
+  unused-same (t .level) (t .n),
+  unused-same (t .outcome) (t .n),
+  unused-same (t .wait) (t .n),
+  unused-same (t .object) (t .n),
+  unused-same (t .timed) (t .n),
+)
+    (exchange _ _ _ _)
 
 pub ids-same : (ids : List ℕ) (n tasks : ℕ) → allb taskPlaces (idFitsBy ids (usedPlaces n) tasks) ≡ allb taskPlaces (idFitsAt ids n tasks)
 ids-same ids n tasks = all-same _ _ _ _ refl (λ i h. ap (λ (b : Bool). idFits b tasks (getD ids i 0)) (used-flag n i h))

@@ -3,10 +3,11 @@ ghost use mathlib.Core.Path.{_≡_};
 ghost use mathlib.Core.Bool.{cond};
 ghost use lib.Dec.{ltb, eqb};
 ghost use lib.ListN.{getD};
+ghost use Rattle.lists.specs.Test.{allb};
 ghost use Rattle.lists.specs.Table.{filled};
 ghost use Rattle.rules.specs.Sizes.{taskPlaces, maxMutexes, onMutex};
 ghost use Rattle.task_lists.specs.TaskList.{noId};
-ghost use Rattle.record.specs.Reads.{ledBy, heirBy, heirAt, newLevels};
+ghost use Rattle.record.specs.Reads.{ledBy, noMutexAt, heirBy, heirAt, newLevels};
 use record::INHERITING;
 use record::MAX_MUTEXES;
 use record::MUTEXES;
@@ -45,6 +46,17 @@ pub fn leads_of<'a>(
         a[i] = led_to(wait[i], at, mutexes[(at % MAX_MUTEXES) as usize]);
     }
     a
+}
+
+// Does nobody wait for a mutex? Then nobody leads to anybody.
+pub fn none_waits(wait: &[u8; TASKS]) -> bool
+    ensures { λ r. ⌜ r ≡ allb taskPlaces (noMutexAt (now (wait .entry))) ⌝ }
+{
+    let mut none = true;
+    for i in 0..TASKS {
+        none = flags::both(wait[i] != ON_MUTEX, none);
+    }
+    none
 }
 
 // Who is lent the levels of those that wait for a mutex: its owner, where it is inheriting.

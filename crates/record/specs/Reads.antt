@@ -1,6 +1,6 @@
 -- What stands at a place of the record, with what an unused place holds for a number that is no place, and who leads to whom.
 use mathlib.Core.List.{List}
-use mathlib.Core.Bool.{cond}
+use mathlib.Core.Bool.{Bool, cond, not}
 use Prim.Native.Nat.{ℕ, min}
 use lib.Dec.{eqb}
 use lib.ListN.{getD}
@@ -37,6 +37,10 @@ ledBy mutexes kind object = cond (eqb kind onMutex) (getD mutexes object noId) n
 
 abbrev pub leadsAt : Tasks → List ℕ → ℕ → ℕ
 leadsAt t mutexes i = ledBy mutexes (getD (t .wait) i 0) (getD (t .object) i 0)
+
+-- i waits for no mutex, and leads to nobody
+abbrev pub noMutexAt : List ℕ → ℕ → Bool
+noMutexAt waits i = not (eqb (getD waits i 0) onMutex)
 
 -- the owner of what i waits for
 abbrev pub nextAt : Tasks → Mutexes → ℕ → ℕ

@@ -1,6 +1,6 @@
 // The test of a record, phrase by phrase.
 ghost use mathlib.Core.Path.{_≡_};
-ghost use Rattle.checks.specs.Checks.{sizesIn, unusedIn, tasksIn, objectsIn, listsIn, tablesIn, placesIn, waitsIn, levelsIn};
+ghost use Rattle.checks.specs.Checks.{sizesIn, othersUnused, tasksIn, objectsIn, listsIn, tablesIn, placesIn, waitsIn, levelsIn};
 ghost use Rattle.record.specs.SoundRecord.{soundOf};
 ghost use Rattle.record.specs.GoodRecord.{Typed};
 use record::MAX_MUTEXES;
@@ -33,44 +33,41 @@ fn sizes_in(s: State) -> bool
     flags::both(s.tasks.n <= TASK_PLACES, objects)
 }
 
-// "unused table places as in the fresh state"; due times belong to timed waits, and those to tasks.
-fn unused_in(t: Tasks) -> bool
-    ensures { λ r. ⌜ r ≡ unusedIn t ⌝ }
+// "unused table places as in the fresh state", but for the priorities, which are tested with their range; due times belong to timed waits, and
+// those to tasks.
+fn unused_in(t: Tasks, used: &[u8; TASKS]) -> bool
+    ensures { λ r. ⌜ r ≡ othersUnused t (now (used .entry)) ⌝ }
 {
-    let used = task_list_checks::used_places(t.n);
-    let priority = t.priority;
-    if !sound_tables::unused(&priority, &used) {
-        return false;
-    }
     let level = t.level;
-    if !sound_tables::unused(&level, &used) {
+    if !sound_tables::unused(&level, used) {
         return false;
     }
     let outcome = t.outcome;
-    if !sound_tables::unused(&outcome, &used) {
+    if !sound_tables::unused(&outcome, used) {
         return false;
     }
     let wait = t.wait;
-    if !sound_tables::unused(&wait, &used) {
+    if !sound_tables::unused(&wait, used) {
         return false;
     }
     let object = t.object;
-    if !sound_tables::unused(&object, &used) {
+    if !sound_tables::unused(&object, used) {
         return false;
     }
     let timed = t.timed;
-    sound_tables::unused(&timed, &used)
+    sound_tables::unused(&timed, used)
 }
 
 // Priorities, waits, their times and outcomes.
 fn tasks_in(t: Tasks, clock: u32) -> bool
     ensures { λ r. ⌜ r ≡ tasksIn t clock ⌝ }
 {
-    if !unused_in(t) {
+    let used = task_list_checks::used_places(t.n);
+    let priority = t.priority;
+    if !sound_tables::priorities(&priority, &used) {
         return false;
     }
-    let priority = t.priority;
-    if !sound_tables::priorities(&priority) {
+    if !unused_in(t, &used) {
         return false;
     }
     let wait = t.wait;
@@ -141,7 +138,7 @@ fn waits_in<'a>(
     sound_places::owners_end(&next, &owner, n)
 }
 
-// "stored levels as defined"
+// "stored levels as defined": own priorities, where nobody waits for a mutex, since nothing is lent then.
 fn levels_in<'a>(
     own: [u8; TASKS],
     level: &'a [u8; TASKS],
@@ -151,6 +148,9 @@ fn levels_in<'a>(
 ) -> bool
     ensures { λ r. ⌜ r ≡ levelsIn own (now (level .entry)) (now (wait .entry)) (now (object .entry)) m ⌝ }
 {
+    if leads::none_waits(wait) {
+        return sound_places::same(level, &own);
+    }
     let heirs = leads::heirs_of(m);
     let to = leads::leads_of(wait, object, heirs);
     let lent = walks::lent_levels(own, &to, level);
@@ -174,7 +174,7 @@ fn tables_in(s: State) -> bool
 }
 
 // Is the record sound? The tables first, then what joins them. The clause `types` says nothing of the answer: it tells the caller's proof what
-// every record of this type has.
+// every record of this type has. The parts are copied out first: a part that is lent out of the record would keep a copy of the whole of it.
 pub fn is_sound(s: State) -> bool
     ensures answer { λ r. ⌜ r ≡ soundOf s ⌝ }
     ensures types { λ r. ⌜ Typed s ⌝ }
@@ -183,35 +183,39 @@ pub fn is_sound(s: State) -> bool
         return false;
     }
     let t = s.tasks;
+    let ready = s.ready;
+    let waiting = s.waiting;
+    let mutexes = s.mutexes;
+    let semaphores = s.semaphores;
     let wait = t.wait;
     let object = t.object;
-    if !places_in(&wait, s.ready, s.waiting, t.n, s.running) {
+    if !places_in(&wait, ready, waiting, t.n, s.running) {
         return false;
     }
-    if !waits_in(&wait, &object, s.mutexes, s.semaphores, t.n) {
+    if !waits_in(&wait, &object, mutexes, semaphores, t.n) {
         return false;
     }
     let own = t.priority;
     let level = t.level;
-    if !levels_in(own, &level, &wait, &object, s.mutexes) {
+    if !levels_in(own, &level, &wait, &object, mutexes) {
         return false;
     }
-    if !task_list_checks::ascending(s.ready, level) {
+    if !task_list_checks::ascending(ready, level) {
         return false;
     }
     if s.started == 0 {
-        let owners = s.mutexes.owner;
+        let owners = mutexes.owner;
         let outcomes = t.outcome;
         return sound_phase::set_up_in(
             s.clock,
             s.hold,
             s.running,
-            s.waiting.n,
+            waiting.n,
             owners,
             outcomes,
-            s.ready,
+            ready,
             level,
         );
     }
-    sound_phase::started_in(level, s.ready, s.running, s.hold)
+    sound_phase::started_in(level, ready, s.running, s.hold)
 }

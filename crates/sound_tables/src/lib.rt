@@ -2,7 +2,7 @@
 ghost use mathlib.Core.Path.{_≡_};
 ghost use Rattle.lists.specs.Test.{allb};
 ghost use Rattle.rules.specs.Sizes.{taskPlaces};
-ghost use Rattle.checks.specs.Checks.{unusedBy, priorityAt, waitFits, waitFitsAt, timeFits, timeFitsAt, outcomeFits, outcomeFitsAt};
+ghost use Rattle.checks.specs.Checks.{unusedBy, priorityFitsBy, waitFits, waitFitsAt, timeFits, timeFitsAt, outcomeFits, outcomeFitsAt};
 use record::FLUSHED;
 use record::GRANTED;
 use record::LEVELS;
@@ -27,13 +27,16 @@ pub fn unused<'a>(column: &'a [u8; TASKS], used: &'a [u8; TASKS]) -> bool
     fits
 }
 
-// Priorities are in range.
-pub fn priorities(priority: &[u8; TASKS]) -> bool
-    ensures { λ r. ⌜ r ≡ allb taskPlaces (priorityAt (now (priority .entry))) ⌝ }
+// Priorities are in range, and unused places hold 0. Both at once: the range by itself is compiled to a test of one place after another.
+pub fn priorities<'a>(priority: &'a [u8; TASKS], used: &'a [u8; TASKS]) -> bool
+    ensures { λ r. ⌜ r ≡ allb taskPlaces (priorityFitsBy (now (priority .entry)) (now (used .entry))) ⌝ }
 {
     let mut fits = true;
     for i in 0..TASKS {
-        fits = flags::both(priority[i] < LEVELS, fits);
+        fits = flags::both(
+            flags::choose(used[i] == 1, priority[i] < LEVELS, priority[i] == 0),
+            fits,
+        );
     }
     fits
 }
