@@ -7,6 +7,7 @@ pub mod WaitLaws
 pub mod EffectLaws
 pub mod ObjectLaws
 pub mod PartLaws
+pub mod TimedLaws
 pub mod RowLaws
 pub mod FinishLaws
 pub mod PlainStepLaws

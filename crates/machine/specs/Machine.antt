@@ -239,20 +239,30 @@ callerRefusal started running = cond (eqb started 0) 4 (cond (eqb running noId) 
 unfoldable pub calledBy : State → Out → Out
 calledBy k o = cond (eqb (callerRefusal (k .started) (k .running)) 0) o (answerIn k (callerRefusal (k .started) (k .running)) 0)
 
+-- why a step that may wait for one of n objects may not be made, or 0
+unfoldable pub timedRefusal : ℕ → ℕ → ℕ → ℕ → ℕ → ℕ
+timedRefusal started running n object t = cond (eqb (callerRefusal started running) 0) (cond (leb n object) 6 (cond (isTime t) 0 7)) (callerRefusal started running)
+
+-- a mutex's owner, the owner of what that waits for, and so on
+abbrev pub ownersFrom : Tasks → Mutexes → ℕ → List ℕ
+ownersFrom t m owner = chainFrom (filled taskPlaces (nextAt t m)) owner (t .n)
+
 unfoldable pub lockWaits : State → ℕ → ℕ → Out
 lockWaits k m t =
-    let chain = chainFrom (filled taskPlaces (nextAt (k .tasks) (k .mutexes))) (ownerAt (k .mutexes) m) (k .tasks .n) in
+    let chain = ownersFrom (k .tasks) (k .mutexes) (ownerAt (k .mutexes) m) in
     mayWait k t
     (cond (member (k .running) chain) (answerIn k 12 (length (before (k .running) chain)))
     (answerIn (dispatched (settled (blockedOn k (k .running) onMutex m t) (replicate taskPlaces 0))) 1 (length (before (k .running) chain))))
 
+abbrev pub lockOn : State → ℕ → ℕ → Out
+lockOn k m t =
+    cond (eqb (ownerAt (k .mutexes) m) (k .running)) (answerIn k 9 0)
+    (cond (eqb (ownerAt (k .mutexes) m) noId) (answerIn (putMutexes k (ownerSet (k .mutexes) m (k .running))) 0 0) (lockWaits k m t))
+
 unfoldable pub lockStep : State → ℕ → ℕ → Out
 lockStep k m t = calledBy k
     (cond (leb (k .mutexes .n) m) (answerIn k 6 0)
-    (cond (isTime t)
-    (cond (eqb (ownerAt (k .mutexes) m) (k .running)) (answerIn k 9 0)
-    (cond (eqb (ownerAt (k .mutexes) m) noId) (answerIn (putMutexes k (ownerSet (k .mutexes) m (k .running))) 0 0) (lockWaits k m t)))
-    (answerIn k 7 0)))
+    (cond (isTime t) (lockOn k m t) (answerIn k 7 0)))
 
 abbrev pub bestAt : State → ℕ → ℕ → ℕ
 bestAt k kind object = bestOf (k .waiting) (k .tasks .wait) (k .tasks .object) (k .tasks .level) kind object
@@ -266,14 +276,16 @@ unlockStep k m = calledBy k
     (cond (leb (k .mutexes .n) m) (answerIn k 6 0)
     (cond (eqb (ownerAt (k .mutexes) m) (k .running)) (answerIn (passedTo k m (bestAt k onMutex m)) 0 0) (answerIn k 10 0)))
 
+abbrev pub pendOn : State → ℕ → ℕ → Out
+pendOn k j t =
+    cond (eqb (countAt (k .semaphores) j) 0)
+    (mayWait k t (answerIn (dispatched (blockedOn k (k .running) onSemaphore j t)) 1 0))
+    (answerIn (putSemaphores k (countSet (k .semaphores) j (countAt (k .semaphores) j - 1))) 0 0)
+
 unfoldable pub pendStep : State → ℕ → ℕ → Out
 pendStep k j t = calledBy k
     (cond (leb (k .semaphores .n) j) (answerIn k 6 0)
-    (cond (isTime t)
-    (cond (eqb (countAt (k .semaphores) j) 0)
-    (mayWait k t (answerIn (dispatched (blockedOn k (k .running) onSemaphore j t)) 1 0))
-    (answerIn (putSemaphores k (countSet (k .semaphores) j (countAt (k .semaphores) j - 1))) 0 0))
-    (answerIn k 7 0)))
+    (cond (isTime t) (pendOn k j t) (answerIn k 7 0)))
 
 unfoldable pub creditStep : State → ℕ → ℕ → Out
 creditStep k j w =

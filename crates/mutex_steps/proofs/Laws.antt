@@ -1,27 +1,43 @@
--- The cases of a lock that waits and of an unlock, as definitions.
+-- The cases of a lock and of an unlock.
 use mathlib.Core.Path.{_≡_, refl}
-use mathlib.Core.List.{List}
 use mathlib.Core.Bool.{Bool, true, false}
 use Prim.Native.Nat.{ℕ}
 use lib.Dec.{leb, eqb}
 use lib.ListN.{length, replicate}
 use Rattle.lists.specs.Count.{member}
 use Rattle.lists.specs.Order.{before}
-use Rattle.lists.specs.Table.{filled}
 use Rattle.rules.specs.Sizes.{taskPlaces, granted, onMutex}
 use Rattle.task_lists.specs.TaskList.{noId}
-use Rattle.walks.specs.Walk.{chainFrom}
-use Rattle.record.specs.Reads.{ownerAt, nextAt}
+use Rattle.record.specs.Reads.{ownerAt}
 use Rattle.record.specs.Setters.{putMutexes}
 use Rattle.record.specs.declared.State.{State}  -- keep
-use Rattle.machine.specs.Machine.{single, ownerSet, settled, dispatched, woke, blockedOn, answerIn, callerRefusal, calledBy, waitRefusal, mayWait, lockWaits, bestAt, passedTo, unlockStep}
+use Rattle.machine.specs.Machine.{single, ownerSet, settled, dispatched, woke, blockedOn, answerIn, callerRefusal, calledBy, waitRefusal, mayWait, ownersFrom, lockWaits, lockOn, bestAt, passedTo, unlockStep}
 
--- a lock that waits, by what the walk along the chain found
-pub waits-on : (k : State) (m t : ℕ) (next : List ℕ) (owner links : ℕ) (ring : Bool) → eqb (waitRefusal (k .hold) t) 0 ≡ true → next ≡ filled taskPlaces (nextAt (k .tasks) (k .mutexes))
-    → owner ≡ ownerAt (k .mutexes) m → links ≡ length (before (k .running) (chainFrom next owner (k .tasks .n))) → ring ≡ member (k .running) (chainFrom next owner (k .tasks .n)) → ring ≡ false
-    → lockWaits k m t ≡ answerIn (dispatched (settled (blockedOn k (k .running) onMutex m t) (replicate taskPlaces 0))) 1 links
-unfolding lockWaits mayWait
-waits-on k m t next owner links ring e n o l r f = rw (e, ← n, ← o, ← l, ← r, f) refl
+-- a lock, by the owner of the mutex
+module _ (k : State) (m t : ℕ) where
+  pub own-mutex : eqb (ownerAt (k .mutexes) m) (k .running) ≡ true → lockOn k m t ≡ answerIn k 9 0
+  own-mutex e = rw e refl
+
+  pub free-mutex : eqb (ownerAt (k .mutexes) m) (k .running) ≡ false → eqb (ownerAt (k .mutexes) m) noId ≡ true → lockOn k m t ≡ answerIn (putMutexes k (ownerSet (k .mutexes) m (k .running))) 0 0
+  free-mutex e f = rw (e, f) refl
+
+  pub taken-mutex : eqb (ownerAt (k .mutexes) m) (k .running) ≡ false → eqb (ownerAt (k .mutexes) m) noId ≡ false → lockOn k m t ≡ lockWaits k m t
+  taken-mutex e f = rw (e, f) refl
+
+  -- a lock that would wait, by what the walk along the chain found
+  pub waits-refused : eqb (waitRefusal (k .hold) t) 0 ≡ false → lockWaits k m t ≡ answerIn k (waitRefusal (k .hold) t) 0
+  unfolding lockWaits mayWait
+  waits-refused e = rw e refl
+
+  module _ (owner links : ℕ) (ring : Bool) (may : eqb (waitRefusal (k .hold) t) 0 ≡ true) (of : owner ≡ ownerAt (k .mutexes) m)
+      (met : links ≡ length (before (k .running) (ownersFrom (k .tasks) (k .mutexes) owner))) (closed : ring ≡ member (k .running) (ownersFrom (k .tasks) (k .mutexes) owner)) where
+    pub waits-round : ring ≡ true → lockWaits k m t ≡ answerIn k 12 links
+    unfolding lockWaits mayWait
+    waits-round e = rw (may, ← of, ← met, ← closed, e) refl
+
+    pub waits-on : ring ≡ false → lockWaits k m t ≡ answerIn (dispatched (settled (blockedOn k (k .running) onMutex m t) (replicate taskPlaces 0))) 1 links
+    unfolding lockWaits mayWait
+    waits-on e = rw (may, ← of, ← met, ← closed, e) refl
 
 -- an unlock by the owner
 module _ (k : State) (m : ℕ) (called : eqb (callerRefusal (k .started) (k .running)) 0 ≡ true) (there : leb (k .mutexes .n) m ≡ false) (owns : eqb (ownerAt (k .mutexes) m) (k .running) ≡ true) where

@@ -1,35 +1,61 @@
 // The steps on mutexes: the refusals in the order of the table, then what the step does.
 ghost use mathlib.Core.Path.{_≡_};
-ghost use Rattle.machine.specs.Machine.{lockStep, lockWaits, unlockStep};
+ghost use lib.ListN.{length};
+ghost use Rattle.lists.specs.Count.{member};
+ghost use Rattle.lists.specs.Order.{before};
+ghost use Rattle.machine.specs.Machine.{ownersFrom, lockStep, unlockStep};
 use record::GRANTED;
+use record::Mutexes;
 use record::NONE;
 use record::ON_MUTEX;
 use record::Out;
 use record::State;
 use record::TASKS;
+use record::Tasks;
 use record::reads;
 use replies::answers;
 use replies::refusals;
+use walks::Found;
 
-// A lock that meets a taken mutex: the caller waits, unless it may not.
-fn lock_waits(mut s: State, m: u8, time: u32) -> Out
-    ensures { λ r. ⌜ r ≡ lockWaits s m time ⌝ }
+// What the walk from a mutex's owner along the owners of what is waited for finds: its end, or the caller.
+fn chain(t: Tasks, m: Mutexes, owner: u8, caller: u8) -> Found
+    ensures { λ r. ⌜ (r .links ≡ length (before caller (ownersFrom t m owner))) × (r .ring ≡ member caller (ownersFrom t m owner)) ⌝ }
 {
-    let no = refusals::of_wait(s.hold, time);
+    let waits = t.wait;
+    let objects = t.object;
+    let owners = m.owner;
+    let next = leads::leads_of(&waits, &objects, owners);
+    walks::follow(&next, owner, caller, t.n)
+}
+
+// A free mutex is taken; else the caller waits, unless it may not.
+pub fn lock(mut s: State, m: u32, time: u32) -> Out
+    ensures { λ r. ⌜ r ≡ lockStep s m time ⌝ }
+{
+    let no = refusals::of_timed(s.started, s.running, s.mutexes.n, m, time);
     if no != 0 {
         return answers::answer(s, no, 0);
     }
-    let t = s.tasks;
-    let waits = t.wait;
-    let objects = t.object;
+    let j = m as u8;
     let mutexes = s.mutexes;
-    let owners = mutexes.owner;
-    let next = leads::leads_of(&waits, &objects, owners);
-    let f = walks::follow(&next, reads::owner_at(mutexes, m), s.running, t.n);
+    let owner = reads::owner_at(mutexes, j);
+    if owner == s.running {
+        return answers::answer(s, 9, 0);
+    }
+    if owner == NONE {
+        s.mutexes = objects::set_owner(mutexes, j, s.running);
+        return answers::answer(s, 0, 0);
+    }
+    let not_now = refusals::of_wait(s.hold, time);
+    if not_now != 0 {
+        return answers::answer(s, not_now, 0);
+    }
+    let t = s.tasks;
+    let f = chain(t, mutexes, owner, s.running);
     if f.ring {
         return answers::answer(s, 12, f.links as u32);
     }
-    let mut tasks = waits::begin_wait(t, s.running, ON_MUTEX, m, s.clock, time);
+    let mut tasks = waits::begin_wait(t, s.running, ON_MUTEX, j, s.clock, time);
     s.waiting = task_lists::push(s.waiting, s.running);
     let q = s.ready;
     let order = settle::settle(tasks, mutexes, q, [0u8; TASKS]);
@@ -42,31 +68,6 @@ fn lock_waits(mut s: State, m: u8, time: u32) -> Out
     s.ready = queue;
     s.running = turn.running;
     answers::answer(s, 1, f.links as u32)
-}
-
-pub fn lock(mut s: State, m: u32, time: u32) -> Out
-    ensures { λ r. ⌜ r ≡ lockStep s m time ⌝ }
-{
-    let not_now = refusals::of_caller(s.started, s.running);
-    if not_now != 0 {
-        return answers::answer(s, not_now, 0);
-    }
-    if s.mutexes.n as u32 <= m {
-        return answers::answer(s, 6, 0);
-    }
-    if !refusals::is_time(time) {
-        return answers::answer(s, 7, 0);
-    }
-    let j = m as u8;
-    let owner = reads::owner_at(s.mutexes, j);
-    if owner == s.running {
-        return answers::answer(s, 9, 0);
-    }
-    if owner == NONE {
-        s.mutexes = objects::set_owner(s.mutexes, j, s.running);
-        return answers::answer(s, 0, 0);
-    }
-    lock_waits(s, j, time)
 }
 
 // Ownership passes to the best waiter; where nobody waits, the mutex becomes free.

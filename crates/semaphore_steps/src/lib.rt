@@ -14,15 +14,9 @@ use replies::refusals;
 pub fn pend(mut s: State, k: u32, time: u32) -> Out
     ensures { λ r. ⌜ r ≡ pendStep s k time ⌝ }
 {
-    let not_now = refusals::of_caller(s.started, s.running);
-    if not_now != 0 {
-        return answers::answer(s, not_now, 0);
-    }
-    if s.semaphores.n as u32 <= k {
-        return answers::answer(s, 6, 0);
-    }
-    if !refusals::is_time(time) {
-        return answers::answer(s, 7, 0);
+    let no = refusals::of_timed(s.started, s.running, s.semaphores.n, k, time);
+    if no != 0 {
+        return answers::answer(s, no, 0);
     }
     let j = k as u8;
     let count = reads::count_at(s.semaphores, j);
@@ -30,9 +24,9 @@ pub fn pend(mut s: State, k: u32, time: u32) -> Out
         s.semaphores = objects::set_count(s.semaphores, j, count - 1);
         return answers::answer(s, 0, 0);
     }
-    let no = refusals::of_wait(s.hold, time);
-    if no != 0 {
-        return answers::answer(s, no, 0);
+    let not_now = refusals::of_wait(s.hold, time);
+    if not_now != 0 {
+        return answers::answer(s, not_now, 0);
     }
     let tasks = waits::begin_wait(s.tasks, s.running, ON_SEMAPHORE, j, s.clock, time);
     s.tasks = tasks;

@@ -1,90 +1,146 @@
 -- `mutex_steps::lock` meets its contract.
-use borrow.Author.Needs.{needs}
-use borrow.Author.Tests.{eq-eqb, le-leb, lt-leb, ne-eqb, not-false, not-true}
-use mathlib.Core.Path.{_∙_}
-use Rattle.machine.specs.Machine.{calledBy, lockStep}
+use borrow.Author.Needs.{needs, fits-under}
+use mir.Syntax.{w8}
+use Prim.{tt}
+use borrow.Author.Tests.{eq-eqb, ne-eqb}
+use mathlib.Core.Path.{ap, sym, _∙_}
+use mathlib.Core.List.{List}
+use Prim.Native.Nat.{ℕ}
+use lib.ListN.{replicate}
+use Rattle.rules.specs.Sizes.{taskPlaces, onMutex}
+use Rattle.task_lists.specs.TaskList.{noId}
+use Rattle.record.specs.Setters.{putTasks, putMutexes, putWaiting, putRunning}
+use Rattle.record.specs.declared.State.{State}
+use Rattle.record.specs.declared.Mutexes.{Mutexes}
+use Rattle.machine.specs.Machine.{answerIn, settled, dispatched}
+use Rattle.machine.specs.PartLaws.{settled-parts, blocked-parts}
+use Rattle.machine.specs.TimedLaws.{lock-refused, lock-passed}
+use Rattle.mutex_steps.proofs.Laws.{own-mutex, free-mutex, taken-mutex, waits-refused, waits-round, waits-on}
 use Rattle.mutex_steps.proofs.lock.Statement.{statement}
 use Rattle.mutex_steps.proofs.lock.Tie as tie
 
-of-caller-requires : tie.Need-of-caller-requires
-of-caller-requires c κs = search needs
+of-timed-requires : tie.Need-of-timed-requires
+of-timed-requires c κs = search needs
 
 answer-requires : tie.Need-answer-requires
 answer-requires c κs = search needs
 
 returns : tie.Need-returns
-unfolding lockStep calledBy
-returns c = simp (c .answer .ensures, ← c .before .before .of-caller .ensures, ne-eqb _ _ (c .before .if1 .taken))
+returns c = let a = c .before .before .before .args in
+    let k = a .s in
+    let no = c .before .before .of-timed in
+    c .answer .ensures ∙ ap (λ (n : ℕ). answerIn k n 0) (no .ensures .0) ∙ sym (lock-refused k (a .m) (a .time) (rw (← no .ensures .0) (ne-eqb _ _ (c .before .if1 .taken))))
 
-cast-if2 : tie.Need-cast-if2
-cast-if2 c = search needs
+cast-j : tie.Need-cast-j
+cast-j c = fits-under w8 _ 256 (c .before .of-timed .ensures .1 (c .if1 .left)) tt
+
+owner-at-requires : tie.Need-owner-at-requires
+owner-at-requires c κs = search needs
 
 answer-requires-2 : tie.Need-answer-requires-2
 answer-requires-2 c κs = search needs
 
 returns-2 : tie.Need-returns-2
-unfolding lockStep calledBy
-returns-2 c = simp (c .answer2 .ensures, le-leb _ _ (c .before .if2 .taken), ← c .before .before .before .before .of-caller .ensures, eq-eqb _ _ (c .before .before .before .if1 .left))
+returns-2 c = let a = c .before .before .before .before .before .before .before .args in
+    let k = a .s in
+    c .answer2 .ensures ∙ sym (own-mutex k (a .m) (a .time) (rw (← c .before .before .before .owner-at .ensures) (eq-eqb _ _ (c .before .if2 .taken)))) ∙ sym (lock-passed k (a .m) (a .time) (rw (← c .before .before .before .before .before .before .of-timed .ensures .0) (eq-eqb _ _ (c .before .before .before .before .before .if1 .left))))
 
-is-time-requires : tie.Need-is-time-requires
-is-time-requires c κs = search needs
+set-owner-requires : tie.Need-set-owner-requires
+set-owner-requires c κs = search needs
 
 answer-requires-3 : tie.Need-answer-requires-3
 answer-requires-3 c κs = search needs
 
 returns-3 : tie.Need-returns-3
-unfolding lockStep calledBy
-returns-3 c = simp (c .answer3 .ensures, ← c .before .before .is-time .ensures, not-true (c .before .before .is-time .result) (c .before .if3 .taken), lt-leb _ _ (c .before .before .before .if2 .left), ← c .before .before .before .before .before .before .of-caller .ensures, eq-eqb _ _ (c .before .before .before .before .before .if1 .left))
+returns-3 c = let a = c .before .before .before .before .before .before .before .before .before .args in
+    let k = a .s in
+    c .answer3 .ensures ∙ ap (λ (m : Mutexes). answerIn (putMutexes k m) 0 0) (c .before .set-owner .ensures) ∙ sym (free-mutex k (a .m) (a .time) (rw (← c .before .before .before .before .before .owner-at .ensures) (ne-eqb _ _ (c .before .before .before .if2 .left))) (rw (← c .before .before .before .before .before .owner-at .ensures) (eq-eqb _ _ (c .before .before .if3 .taken)))) ∙ sym (lock-passed k (a .m) (a .time) (rw (← c .before .before .before .before .before .before .before .before .of-timed .ensures .0) (eq-eqb _ _ (c .before .before .before .before .before .before .before .if1 .left))))
 
-cast-j : tie.Need-cast-j
-cast-j c = search needs
-
-owner-at-requires : tie.Need-owner-at-requires
-owner-at-requires c κs = search needs
+of-wait-requires : tie.Need-of-wait-requires
+of-wait-requires c κs = search needs
 
 answer-requires-4 : tie.Need-answer-requires-4
 answer-requires-4 c κs = search needs
 
 returns-4 : tie.Need-returns-4
-unfolding lockStep calledBy
-returns-4 c = simp (c .answer4 .ensures, ← c .before .before .before .owner-at .ensures, ← c .before .before .before .before .before .is-time .ensures, eq-eqb _ _ (c .before .if4 .taken), not-false (c .before .before .before .before .before .is-time .result) (c .before .before .before .before .if3 .left), lt-leb _ _ (c .before .before .before .before .before .before .if2 .left), ← c .before .before .before .before .before .before .before .before .before .of-caller .ensures, eq-eqb _ _ (c .before .before .before .before .before .before .before .before .if1 .left))
+returns-4 c = let a = c .before .before .before .before .before .before .before .before .before .before .args in
+    let k = a .s in
+    let no = c .before .before .of-wait in
+    c .answer4 .ensures ∙ ap (λ (n : ℕ). answerIn k n 0) (no .ensures) ∙ sym (waits-refused k (a .m) (a .time) (rw (← no .ensures) (ne-eqb _ _ (c .before .if4 .taken)))) ∙ sym (taken-mutex k (a .m) (a .time) (rw (← c .before .before .before .before .before .before .owner-at .ensures) (ne-eqb _ _ (c .before .before .before .before .if2 .left))) (rw (← c .before .before .before .before .before .before .owner-at .ensures) (ne-eqb _ _ (c .before .before .before .if3 .left)))) ∙ sym (lock-passed k (a .m) (a .time) (rw (← c .before .before .before .before .before .before .before .before .before .of-timed .ensures .0) (eq-eqb _ _ (c .before .before .before .before .before .before .before .before .if1 .left))))
 
-set-owner-requires : tie.Need-set-owner-requires
-set-owner-requires c κs = search needs
+chain-requires : tie.Need-chain-requires
+chain-requires c κs = search needs
+
+cast-answer : tie.Need-cast-answer
+cast-answer c = search needs
 
 answer-requires-5 : tie.Need-answer-requires-5
 answer-requires-5 c κs = search needs
 
 returns-5 : tie.Need-returns-5
-unfolding lockStep calledBy
-returns-5 c = c .answer5 .ensures ∙ rw (c .before .set-owner .ensures, ← c .before .before .before .before .before .owner-at .ensures, ← c .before .before .before .before .before .before .before .is-time .ensures, eq-eqb _ _ (c .before .before .if5 .taken), ne-eqb _ _ (c .before .before .before .if4 .left), not-false (c .before .before .before .before .before .before .before .is-time .result) (c .before .before .before .before .before .before .if3 .left), lt-leb _ _ (c .before .before .before .before .before .before .before .before .if2 .left), ← c .before .before .before .before .before .before .before .before .before .before .before .of-caller .ensures, eq-eqb _ _ (c .before .before .before .before .before .before .before .before .before .before .if1 .left))
+returns-5 c = let a = c .before .before .before .before .before .before .before .before .before .before .before .before .before .before .args in
+    let k = a .s in
+    let f = c .before .before .before .chain in
+    c .answer5 .ensures ∙ sym (waits-round k (a .m) (a .time) (c .before .before .before .before .before .before .before .before .before .before .owner-at .result) (f .result .links) (f .result .ring) (rw (← c .before .before .before .before .before .before .of-wait .ensures) (eq-eqb _ _ (c .before .before .before .before .before .if4 .left))) (c .before .before .before .before .before .before .before .before .before .before .owner-at .ensures) (f .ensures .0) (f .ensures .1) (c .before .before .if5 .taken)) ∙ sym (taken-mutex k (a .m) (a .time) (rw (← c .before .before .before .before .before .before .before .before .before .before .owner-at .ensures) (ne-eqb _ _ (c .before .before .before .before .before .before .before .before .if2 .left))) (rw (← c .before .before .before .before .before .before .before .before .before .before .owner-at .ensures) (ne-eqb _ _ (c .before .before .before .before .before .before .before .if3 .left)))) ∙ sym (lock-passed k (a .m) (a .time) (rw (← c .before .before .before .before .before .before .before .before .before .before .before .before .before .of-timed .ensures .0) (eq-eqb _ _ (c .before .before .before .before .before .before .before .before .before .before .before .before .if1 .left))))
 
-lock-waits-requires : tie.Need-lock-waits-requires
-lock-waits-requires c κs = search needs
+begin-wait-requires : tie.Need-begin-wait-requires
+begin-wait-requires c κs = search needs
+
+push-requires : tie.Need-push-requires
+push-requires c κs = search needs
+
+settle-requires : tie.Need-settle-requires
+settle-requires c κs = search needs
+
+dispatch-requires : tie.Need-dispatch-requires
+dispatch-requires c κs = search needs
+
+cast-answer-2 : tie.Need-cast-answer-2
+cast-answer-2 c = search needs
+
+answer-requires-6 : tie.Need-answer-requires-6
+answer-requires-6 c κs = search needs
 
 returns-6 : tie.Need-returns-6
-unfolding lockStep calledBy
-returns-6 c = simp (c .lock-waits .ensures, ← c .before .before .before .before .owner-at .ensures, ← c .before .before .before .before .before .before .is-time .ensures, ne-eqb _ _ (c .before .if5 .left), ne-eqb _ _ (c .before .before .if4 .left), not-false (c .before .before .before .before .before .before .is-time .result) (c .before .before .before .before .before .if3 .left), lt-leb _ _ (c .before .before .before .before .before .before .before .if2 .left), ← c .before .before .before .before .before .before .before .before .before .before .of-caller .ensures, eq-eqb _ _ (c .before .before .before .before .before .before .before .before .before .if1 .left))
+returns-6 c = let a = c .before .before .before .before .before .before .before .before .before .before .before .before .before .before .before .before .before .before .before .before .before .before .args in
+    let k = a .s in
+    let t = c .before .before .before .before .before .before .before .before .before .begin-wait in
+    let w = c .before .before .before .before .before .before .before .before .push in
+    let woken : List ℕ = replicate taskPlaces 0 in
+    let waiting = putRunning (putWaiting (putTasks k (t .result)) (w .result)) noId in
+    let f = c .before .before .before .before .before .before .before .before .before .before .before .chain in
+    c .answer6 .ensures
+    ∙ ap (λ (z : State). answerIn z 1 (f .result .links)) (settled-parts waiting woken (c .before .before .before .before .before .before .settle .result) (c .before .before .before .dispatch .result) (c .before .before .before .before .before .before .settle .ensures) (c .before .before .before .dispatch .ensures)
+    ∙ ap (λ (z : State). dispatched (settled z woken)) (blocked-parts k (k .running) onMutex (a .m) (a .time) (t .result) (w .result) (t .ensures) (w .ensures)))
+    ∙ sym (waits-on k (a .m) (a .time) (c .before .before .before .before .before .before .before .before .before .before .before .before .before .before .before .before .before .before .owner-at .result) (f .result .links) (f .result .ring) (rw (← c .before .before .before .before .before .before .before .before .before .before .before .before .before .before .of-wait .ensures) (eq-eqb _ _ (c .before .before .before .before .before .before .before .before .before .before .before .before .before .if4 .left))) (c .before .before .before .before .before .before .before .before .before .before .before .before .before .before .before .before .before .before .owner-at .ensures) (f .ensures .0) (f .ensures .1) (c .before .before .before .before .before .before .before .before .before .before .if5 .left))
+    ∙ sym (taken-mutex k (a .m) (a .time) (rw (← c .before .before .before .before .before .before .before .before .before .before .before .before .before .before .before .before .before .before .owner-at .ensures) (ne-eqb _ _ (c .before .before .before .before .before .before .before .before .before .before .before .before .before .before .before .before .if2 .left))) (rw (← c .before .before .before .before .before .before .before .before .before .before .before .before .before .before .before .before .before .before .owner-at .ensures) (ne-eqb _ _ (c .before .before .before .before .before .before .before .before .before .before .before .before .before .before .before .if3 .left))))
+    ∙ sym (lock-passed k (a .m) (a .time) (rw (← c .before .before .before .before .before .before .before .before .before .before .before .before .before .before .before .before .before .before .before .before .before .of-timed .ensures .0) (eq-eqb _ _ (c .before .before .before .before .before .before .before .before .before .before .before .before .before .before .before .before .before .before .before .before .if1 .left))))
 
 pub lock-spec : {M : Type 1} → statement M
 lock-spec =
     tie.close
     (tie.spec
-    of-caller-requires
+    of-timed-requires
     answer-requires
     returns
-    cast-if2
-    answer-requires-2
-    returns-2
-    is-time-requires
-    answer-requires-3
-    returns-3
     cast-j
     owner-at-requires
+    answer-requires-2
+    returns-2
+    set-owner-requires
+    answer-requires-3
+    returns-3
+    of-wait-requires
     answer-requires-4
     returns-4
-    set-owner-requires
+    chain-requires
+    cast-answer
     answer-requires-5
     returns-5
-    lock-waits-requires
+    begin-wait-requires
+    push-requires
+    settle-requires
+    dispatch-requires
+    cast-answer-2
+    answer-requires-6
     returns-6)
