@@ -13,7 +13,7 @@ use borrow.Author.Tests.{ltb-true, eqb-true, lt-ltb, le-ltb, le-leb, eq-eqb, ne-
 use Rattle.lists.specs.Test.{_and_, _or_, allb, someb}
 use Rattle.lists.specs.Count.{occ}
 use Rattle.lists.specs.Order.{ascb, tiesb, inside}
-use Rattle.lists.specs.TestLaws.{and-l, and-r, true-and, or-true, or-r, same-test}
+use Rattle.lists.specs.TestLaws.{which, and-l, and-r, true-and, or-true, or-r, same-test}
 use Rattle.lists.specs.CountLaws.{occ-head}
 use Rattle.lists.specs.OrderLaws.{inside-true}
 use Rattle.rules.specs.Sizes.{taskPlaces, maxMutexes, maxSemaphores, maxHold, granted}
@@ -30,12 +30,20 @@ use Rattle.record.specs.Reads.{ownerAt}
 use Rattle.record.specs.GoodRecord.{Typed}
 use Rattle.record.specs.TidyLaws.{tasks-fit, mutexes-fit, semaphores-fit, ready-fits, waiting-fits, running-or, unused-at}
 use Rattle.record.specs.ViewLaws.{stored-level, owner-id, unused-owner, view-tasks, view-outcomes, view-waits, view-mutexes, view-kinds, view-semaphores, view-maxima, view-outcome, view-owner}
-use Rattle.checks.specs.Checks.{sizesIn, unusedAt, tasksIn, objectsIn, tablesIn, waitsIn, startedIn, freeAt, setUpIn, checks}
+use Rattle.checks.specs.Checks.{sizesIn, unusedAt, tasksIn, objectsIn, tablesIn, waitsIn, startedIn, freeAt, atRest, setUpIn, checks}
 use Rattle.checks.specs.TidyCheckLaws.{checks-tidy, tidy-sizes, tidy-unused, tidy-waits}
 use Rattle.checks.specs.TableCheckLaws.{no-id, used-tasks, used-mutexes, priorities-same, times-same, outcomes-same, owner-read, mutexes-same, counts-same, lists-same, blocked-same}
 use Rattle.checks.specs.PlaceCheckLaws.{places-same, waiting-view, places-view}
 use Rattle.checks.specs.LevelCheckLaws.{ringless-ring, facts-ringless, levels-same}
 use Rattle.record.specs.declared.State.{State}  -- keep
+
+-- four tests first, and then the others
+four-first : (a b c d r : Bool) → (a and b and c and d) and r ≡ a and b and c and d and r
+unfolding _and_
+four-first a b c d r = elim (which a) [
+  | inl e ↦ elim (which b) [ inl f ↦ elim (which c) [ inl g ↦ rw (e, f, g) refl | inr g ↦ rw (e, f, g) refl ] | inr f ↦ rw (e, f) refl ]
+  | inr e ↦ rw e refl
+]
 
 -- another key that agrees on the list
 asc-same-key : (f g : ℕ → ℕ) (l : List ℕ) → ((y : ℕ) → 1 ≤ occ y l → f y ≡ g y) → ascb f l ≡ ascb g l
@@ -159,9 +167,10 @@ module _ (k : State) (T : Typed k) (tidy : tidyb k ≡ true) where
     started-same = started-same-key (keyOf (k .tasks .level)) (levelIn (viewTables k)) (k .ready .n) (k .running) (k .hold) (k .ready .ids)
         (omega (arith, T .ready-length, ready-fits k tidy)) (running-or k tidy) level-running level-ready
 
-    set-up-same : setUpIn (k .clock) (k .hold) (k .running) (k .waiting .n) (k .mutexes .owner) (k .tasks .outcome) (k .ready) (k .tasks .level) ≡ setUpb (view k)
-    unfolding setUpIn setUpb view viewTables
+    set-up-same : atRest (k .clock) (k .hold) (k .running) (k .waiting .n) and setUpIn (k .mutexes .owner) (k .tasks .outcome) (k .ready) (k .tasks .level) ≡ setUpb (view k)
+    unfolding atRest setUpIn setUpb view viewTables
     set-up-same = rw (
+      four-first (eqb (k .clock) 0) (eqb (k .hold) 0) (eqb (k .running) noId) (eqb (k .waiting .n) 0),
       no-id (k .running) (running-or k tidy),
       none-items (k .waiting .n) (k .waiting .ids) (omega (arith, T .waiting-length, waiting-fits k tidy)),
       unowned,
@@ -169,7 +178,7 @@ module _ (k : State) (T : Typed k) (tidy : tidyb k ≡ true) where
       ties-same-key (keyOf (k .tasks .level)) (levelIn (viewTables k)) (items (k .ready)) level-ready,
     )
 
-    phase-same : cond (eqb (k .started) 0) (setUpIn (k .clock) (k .hold) (k .running) (k .waiting .n) (k .mutexes .owner) (k .tasks .outcome) (k .ready) (k .tasks .level)) (startedIn (k .tasks .level) (k .ready) (k .running) (k .hold)) ≡ cond (view k .started) (runsb (view k) and holdb (view k) and urgentb (view k)) (setUpb (view k))
+    phase-same : cond (eqb (k .started) 0) (atRest (k .clock) (k .hold) (k .running) (k .waiting .n) and setUpIn (k .mutexes .owner) (k .tasks .outcome) (k .ready) (k .tasks .level)) (startedIn (k .tasks .level) (k .ready) (k .running) (k .hold)) ≡ cond (view k .started) (runsb (view k) and holdb (view k) and urgentb (view k)) (setUpb (view k))
     unfolding view
     phase-same = rw (set-up-same, started-same) (phases (eqb (k .started) 0) _ _)
 

@@ -172,13 +172,15 @@ unfoldable pub startedIn : List ℕ → TaskList → ℕ → ℕ → Bool
 startedIn levels ready running hold = cond (eqb running noId) (eqb (ready .n) 0 and eqb hold 0)
     (cond (eqb hold 0) (cond (eqb (ready .n) 0) true (leb (keyOf levels running) (keyOf levels (firstId ready)))) true)
 
--- in set-up
+-- in set-up: nothing has begun, nothing is owned, and equal levels stand by id
+unfoldable pub atRest : ℕ → ℕ → ℕ → ℕ → Bool
+atRest clock hold running waiting = eqb clock 0 and eqb hold 0 and eqb running noId and eqb waiting 0
+
 abbrev pub freeAt : List ℕ → ℕ → Bool
 freeAt owners j = eqb (getD owners j 0) noId
 
-unfoldable pub setUpIn : ℕ → ℕ → ℕ → ℕ → List ℕ → List ℕ → TaskList → List ℕ → Bool
-setUpIn clock hold running waiting owners outcomes ready levels = eqb clock 0 and eqb hold 0 and eqb running noId and eqb waiting 0
-    and allb maxMutexes (freeAt owners) and allb taskPlaces (unusedAt outcomes 0) and tiesb (keyOf levels) (items ready)
+unfoldable pub setUpIn : List ℕ → List ℕ → TaskList → List ℕ → Bool
+setUpIn owners outcomes ready levels = allb maxMutexes (freeAt owners) and allb taskPlaces (unusedAt outcomes 0) and tiesb (keyOf levels) (items ready)
 
 -- the tables and lists, each by itself
 unfoldable pub tablesIn : State → Bool
@@ -191,4 +193,4 @@ checks k =
     tablesIn k and placesIn (t .wait) (k .ready) (k .waiting) (t .n) (k .running) and waitsIn (t .wait) (t .object) (k .mutexes) (k .semaphores) (t .n)
     and levelsIn (t .priority) (t .level) (t .wait) (t .object) (k .mutexes)
     and ascb (keyOf (t .level)) (items (k .ready)) and cond (eqb (k .started) 0)
-    (setUpIn (k .clock) (k .hold) (k .running) (k .waiting .n) (k .mutexes .owner) (t .outcome) (k .ready) (t .level)) (startedIn (t .level) (k .ready) (k .running) (k .hold))
+    (atRest (k .clock) (k .hold) (k .running) (k .waiting .n) and setUpIn (k .mutexes .owner) (t .outcome) (k .ready) (t .level)) (startedIn (t .level) (k .ready) (k .running) (k .hold))

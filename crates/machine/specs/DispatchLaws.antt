@@ -60,7 +60,7 @@ module _ (k : State) (on : eqb (k .started) 0 ≡ false) where
       unfolding dispatched turnOf
       case-stays e f = rw (on, some-ready, runs, e, f) refl
 
-      pub case-displaced : eqb (k .hold) 0 ≡ true → ltb (keyOf (k .tasks .level) (firstId (k .ready))) (keyOf (k .tasks .level) (k .running)) ≡ true
+      case-displaced : eqb (k .hold) 0 ≡ true → ltb (keyOf (k .tasks .level) (firstId (k .ready))) (keyOf (k .tasks .level) (k .running)) ≡ true
           → dispatched k ≡ ran k (firstId (k .ready)) (displaced (k .ready) (k .tasks .level) (k .running))
       unfolding dispatched turnOf
       case-displaced e f = rw (on, some-ready, runs, e, f) refl

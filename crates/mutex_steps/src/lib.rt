@@ -60,10 +60,9 @@ pub fn lock(mut s: State, m: u32, time: u32) -> Out
     let q = s.ready;
     let order = settle::settle(tasks, mutexes, q, [0u8; TASKS]);
     let levels = order.level;
-    let ready = order.ready;
     tasks.level = levels;
     s.tasks = tasks;
-    let turn = settle::dispatch(s.started, ready, levels, NONE, s.hold);
+    let turn = settle::dispatch(s.started, order.ready, levels, NONE, s.hold);
     let queue = turn.ready;
     s.ready = queue;
     s.running = turn.running;
@@ -98,10 +97,9 @@ pub fn unlock(mut s: State, m: u32) -> Out
     let q = s.ready;
     let order = settle::settle(tasks, mutexes, q, flags);
     let levels = order.level;
-    let ready = order.ready;
     tasks.level = levels;
     s.tasks = tasks;
-    let turn = settle::dispatch(s.started, ready, levels, s.running, s.hold);
+    let turn = settle::dispatch(s.started, order.ready, levels, s.running, s.hold);
     let queue = turn.ready;
     s.ready = queue;
     s.running = turn.running;

@@ -203,19 +203,13 @@ pub fn is_sound(s: State) -> bool
     if !task_list_checks::ascending(ready, level) {
         return false;
     }
-    if s.started == 0 {
-        let owners = mutexes.owner;
-        let outcomes = t.outcome;
-        return sound_phase::set_up_in(
-            s.clock,
-            s.hold,
-            s.running,
-            waiting.n,
-            owners,
-            outcomes,
-            ready,
-            level,
-        );
+    if s.started != 0 {
+        return sound_phase::started_in(level, ready, s.running, s.hold);
     }
-    sound_phase::started_in(level, ready, s.running, s.hold)
+    if !sound_phase::at_rest(s.clock, s.hold, s.running, waiting.n) {
+        return false;
+    }
+    let owners = mutexes.owner;
+    let outcomes = t.outcome;
+    sound_phase::set_up_in(owners, outcomes, ready, level)
 }

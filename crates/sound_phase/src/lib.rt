@@ -1,6 +1,6 @@
 // Does the phase, set-up or started, have what it owes?
 ghost use mathlib.Core.Path.{_≡_};
-ghost use Rattle.checks.specs.Checks.{startedIn, setUpIn};
+ghost use Rattle.checks.specs.Checks.{startedIn, atRest, setUpIn};
 use record::MUTEXES;
 use record::NONE;
 use record::TASKS;
@@ -25,18 +25,9 @@ pub fn started_in(levels: [u8; TASKS], ready: TaskList, running: u8, hold: u8) -
     task_lists::key_of(levels, running) <= task_lists::key_of(levels, ready.ids[0])
 }
 
-// In set-up: clock 0, hold 0, nothing running, waiting or owned, outcomes 0, as those of unused places are, and equal levels by id.
-pub fn set_up_in(
-    clock: u32,
-    hold: u8,
-    running: u8,
-    waiting: u8,
-    owners: [u8; MUTEXES],
-    outcomes: [u8; TASKS],
-    ready: TaskList,
-    levels: [u8; TASKS],
-) -> bool
-    ensures { λ r. ⌜ r ≡ setUpIn clock hold running waiting owners outcomes ready levels ⌝ }
+// In set-up: clock 0, hold 0, nobody running or waiting.
+pub fn at_rest(clock: u32, hold: u8, running: u8, waiting: u8) -> bool
+    ensures { λ r. ⌜ r ≡ atRest clock hold running waiting ⌝ }
 {
     if clock != 0 {
         return false;
@@ -47,9 +38,18 @@ pub fn set_up_in(
     if running != NONE {
         return false;
     }
-    if waiting != 0 {
-        return false;
-    }
+    waiting == 0
+}
+
+// In set-up: nothing owned, outcomes 0, as those of unused places are, and equal levels by id.
+pub fn set_up_in(
+    owners: [u8; MUTEXES],
+    outcomes: [u8; TASKS],
+    ready: TaskList,
+    levels: [u8; TASKS],
+) -> bool
+    ensures { λ r. ⌜ r ≡ setUpIn owners outcomes ready levels ⌝ }
+{
     if !sound_objects::all_free(&owners) {
         return false;
     }

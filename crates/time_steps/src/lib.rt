@@ -58,10 +58,9 @@ pub fn tick(mut s: State) -> Out
     let q = s.ready;
     let order = settle::settle(tasks, mutexes, q, flags);
     let levels = order.level;
-    let ready = order.ready;
     tasks.level = levels;
     s.tasks = tasks;
-    let turn = settle::dispatch(s.started, ready, levels, s.running, s.hold);
+    let turn = settle::dispatch(s.started, order.ready, levels, s.running, s.hold);
     let queue = turn.ready;
     s.ready = queue;
     s.running = turn.running;

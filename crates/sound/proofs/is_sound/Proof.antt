@@ -16,8 +16,7 @@ tables-in-requires c κs = search needs
 
 returns : tie.Need-returns
 unfolding checks _and_
-returns c =
-    let s = c .before .before .args .s in
+returns c = let s = c .before .before .args .s in
     let T = typed s _ (c .before .before .good .0) in
     let e : false ≡ checks s = rw (test-failed (c .before .tables-in .ensures) (c .if1 .taken)) in
     (e ∙ checks-sound s T, T)
@@ -27,8 +26,7 @@ places-in-requires c κs = search needs
 
 returns-2 : tie.Need-returns-2
 unfolding checks _and_
-returns-2 c =
-    let s = c .before .before .before .before .before .before .before .before .before .before .before .before .args .s in
+returns-2 c = let s = c .before .before .before .before .before .before .before .before .before .before .before .before .args .s in
     let T = typed s _ (c .before .before .before .before .before .before .before .before .before .before .before .before .good .0) in
     let e : false ≡ checks s = rw (test-passed (c .before .before .before .before .before .before .before .before .before .before .before .tables-in .ensures) (c .before .before .before .before .before .before .before .before .before .before .if1 .left), test-failed (c .before .places-in .ensures) (c .if2 .taken)) in
     (e ∙ checks-sound s T, T)
@@ -38,8 +36,7 @@ waits-in-requires c κs = search needs
 
 returns-3 : tie.Need-returns-3
 unfolding checks _and_
-returns-3 c =
-    let s = c .before .before .before .before .before .before .before .before .before .before .before .before .before .before .before .before .args .s in
+returns-3 c = let s = c .before .before .before .before .before .before .before .before .before .before .before .before .before .before .before .before .args .s in
     let T = typed s _ (c .before .before .before .before .before .before .before .before .before .before .before .before .before .before .before .before .good .0) in
     let e : false ≡ checks s = rw (test-passed (c .before .before .before .before .before .before .before .before .before .before .before .before .before .before .before .tables-in .ensures) (c .before .before .before .before .before .before .before .before .before .before .before .before .before .before .if1 .left), test-passed (c .before .before .before .before .before .places-in .ensures) (c .before .before .before .before .if2 .left), test-failed (c .before .waits-in .ensures) (c .if3 .taken)) in
     (e ∙ checks-sound s T, T)
@@ -49,8 +46,7 @@ levels-in-requires c κs = search needs
 
 returns-4 : tie.Need-returns-4
 unfolding checks _and_
-returns-4 c =
-    let s = c .before .before .before .before .before .before .before .before .before .before .before .before .before .before .before .before .before .before .before .before .before .before .before .args .s in
+returns-4 c = let s = c .before .before .before .before .before .before .before .before .before .before .before .before .before .before .before .before .before .before .before .before .before .before .before .args .s in
     let T = typed s _ (c .before .before .before .before .before .before .before .before .before .before .before .before .before .before .before .before .before .before .before .before .before .before .before .good .0) in
     let e : false ≡ checks s = rw (test-passed (c .before .before .before .before .before .before .before .before .before .before .before .before .before .before .before .before .before .before .before .before .before .before .tables-in .ensures) (c .before .before .before .before .before .before .before .before .before .before .before .before .before .before .before .before .before .before .before .before .before .if1 .left), test-passed (c .before .before .before .before .before .before .before .before .before .before .before .before .places-in .ensures) (c .before .before .before .before .before .before .before .before .before .before .before .if2 .left), test-passed (c .before .before .before .before .before .before .before .before .waits-in .ensures) (c .before .before .before .before .before .before .before .if3 .left), test-failed (c .before .levels-in .ensures) (c .if4 .taken)) in
     (e ∙ checks-sound s T, T)
@@ -60,32 +56,39 @@ ascending-requires c κs = search needs
 
 returns-5 : tie.Need-returns-5
 unfolding checks _and_
-returns-5 c =
-    let s = c .before .before .before .before .before .before .before .before .before .before .before .before .before .before .before .before .before .before .before .before .before .before .before .before .before .args .s in
+returns-5 c = let s = c .before .before .before .before .before .before .before .before .before .before .before .before .before .before .before .before .before .before .before .before .before .before .before .before .before .args .s in
     let T = typed s _ (c .before .before .before .before .before .before .before .before .before .before .before .before .before .before .before .before .before .before .before .before .before .before .before .before .before .good .0) in
     let e : false ≡ checks s = rw (test-passed (c .before .before .before .before .before .before .before .before .before .before .before .before .before .before .before .before .before .before .before .before .before .before .before .before .tables-in .ensures) (c .before .before .before .before .before .before .before .before .before .before .before .before .before .before .before .before .before .before .before .before .before .before .before .if1 .left), test-passed (c .before .before .before .before .before .before .before .before .before .before .before .before .before .before .places-in .ensures) (c .before .before .before .before .before .before .before .before .before .before .before .before .before .if2 .left), test-passed (c .before .before .before .before .before .before .before .before .before .before .waits-in .ensures) (c .before .before .before .before .before .before .before .before .before .if3 .left), test-passed (c .before .before .before .levels-in .ensures) (c .before .before .if4 .left), test-failed (c .before .ascending .ensures) (c .if5 .taken)) in
-    (e ∙ checks-sound s T, T)
-
-set-up-in-requires : tie.Need-set-up-in-requires
-set-up-in-requires c κs = search needs
-
-returns-6 : tie.Need-returns-6
-unfolding checks _and_
-returns-6 c =
-    let s = c .before .before .before .before .before .before .before .before .before .before .before .before .before .before .before .before .before .before .before .before .before .before .before .before .before .before .before .before .before .before .args .s in
-    let T = typed s _ (c .before .before .before .before .before .before .before .before .before .before .before .before .before .before .before .before .before .before .before .before .before .before .before .before .before .before .before .before .before .before .good .0) in
-    let e : c .set-up-in .result ≡ checks s = rw (test-passed (c .before .before .before .before .before .before .before .before .before .before .before .before .before .before .before .before .before .before .before .before .before .before .before .before .before .before .before .before .before .tables-in .ensures) (c .before .before .before .before .before .before .before .before .before .before .before .before .before .before .before .before .before .before .before .before .before .before .before .before .before .before .before .before .if1 .left), test-passed (c .before .before .before .before .before .before .before .before .before .before .before .before .before .before .before .before .before .before .before .places-in .ensures) (c .before .before .before .before .before .before .before .before .before .before .before .before .before .before .before .before .before .before .if2 .left), test-passed (c .before .before .before .before .before .before .before .before .before .before .before .before .before .before .before .waits-in .ensures) (c .before .before .before .before .before .before .before .before .before .before .before .before .before .before .if3 .left), test-passed (c .before .before .before .before .before .before .before .before .levels-in .ensures) (c .before .before .before .before .before .before .before .if4 .left), test-passed (c .before .before .before .before .before .before .ascending .ensures) (c .before .before .before .before .before .if5 .left), eq-eqb _ _ (c .before .before .before .if6 .taken)) (c .set-up-in .ensures) in
     (e ∙ checks-sound s T, T)
 
 started-in-requires : tie.Need-started-in-requires
 started-in-requires c κs = search needs
 
+returns-6 : tie.Need-returns-6
+unfolding checks _and_
+returns-6 c = let s = c .before .before .before .before .before .before .before .before .before .before .before .before .before .before .before .before .before .before .before .before .before .before .before .before .before .before .before .before .args .s in
+    let T = typed s _ (c .before .before .before .before .before .before .before .before .before .before .before .before .before .before .before .before .before .before .before .before .before .before .before .before .before .before .before .before .good .0) in
+    let e : c .started-in .result ≡ checks s = rw (test-passed (c .before .before .before .before .before .before .before .before .before .before .before .before .before .before .before .before .before .before .before .before .before .before .before .before .before .before .before .tables-in .ensures) (c .before .before .before .before .before .before .before .before .before .before .before .before .before .before .before .before .before .before .before .before .before .before .before .before .before .before .if1 .left), test-passed (c .before .before .before .before .before .before .before .before .before .before .before .before .before .before .before .before .before .places-in .ensures) (c .before .before .before .before .before .before .before .before .before .before .before .before .before .before .before .before .if2 .left), test-passed (c .before .before .before .before .before .before .before .before .before .before .before .before .before .waits-in .ensures) (c .before .before .before .before .before .before .before .before .before .before .before .before .if3 .left), test-passed (c .before .before .before .before .before .before .levels-in .ensures) (c .before .before .before .before .before .if4 .left), test-passed (c .before .before .before .before .ascending .ensures) (c .before .before .before .if5 .left), ne-eqb _ _ (c .before .if6 .taken)) (c .started-in .ensures) in
+    (e ∙ checks-sound s T, T)
+
+at-rest-requires : tie.Need-at-rest-requires
+at-rest-requires c κs = search needs
+
 returns-7 : tie.Need-returns-7
 unfolding checks _and_
-returns-7 c =
-    let s = c .before .before .before .before .before .before .before .before .before .before .before .before .before .before .before .before .before .before .before .before .before .before .before .before .before .before .before .before .args .s in
-    let T = typed s _ (c .before .before .before .before .before .before .before .before .before .before .before .before .before .before .before .before .before .before .before .before .before .before .before .before .before .before .before .before .good .0) in
-    let e : c .started-in .result ≡ checks s = rw (test-passed (c .before .before .before .before .before .before .before .before .before .before .before .before .before .before .before .before .before .before .before .before .before .before .before .before .before .before .before .tables-in .ensures) (c .before .before .before .before .before .before .before .before .before .before .before .before .before .before .before .before .before .before .before .before .before .before .before .before .before .before .if1 .left), test-passed (c .before .before .before .before .before .before .before .before .before .before .before .before .before .before .before .before .before .places-in .ensures) (c .before .before .before .before .before .before .before .before .before .before .before .before .before .before .before .before .if2 .left), test-passed (c .before .before .before .before .before .before .before .before .before .before .before .before .before .waits-in .ensures) (c .before .before .before .before .before .before .before .before .before .before .before .before .if3 .left), test-passed (c .before .before .before .before .before .before .levels-in .ensures) (c .before .before .before .before .before .if4 .left), test-passed (c .before .before .before .before .ascending .ensures) (c .before .before .before .if5 .left), ne-eqb _ _ (c .before .if6 .left)) (c .started-in .ensures) in
+returns-7 c = let s = c .before .before .before .before .before .before .before .before .before .before .before .before .before .before .before .before .before .before .before .before .before .before .before .before .before .before .before .before .before .args .s in
+    let T = typed s _ (c .before .before .before .before .before .before .before .before .before .before .before .before .before .before .before .before .before .before .before .before .before .before .before .before .before .before .before .before .before .good .0) in
+    let e : false ≡ checks s = rw (test-passed (c .before .before .before .before .before .before .before .before .before .before .before .before .before .before .before .before .before .before .before .before .before .before .before .before .before .before .before .before .tables-in .ensures) (c .before .before .before .before .before .before .before .before .before .before .before .before .before .before .before .before .before .before .before .before .before .before .before .before .before .before .before .if1 .left), test-passed (c .before .before .before .before .before .before .before .before .before .before .before .before .before .before .before .before .before .before .places-in .ensures) (c .before .before .before .before .before .before .before .before .before .before .before .before .before .before .before .before .before .if2 .left), test-passed (c .before .before .before .before .before .before .before .before .before .before .before .before .before .before .waits-in .ensures) (c .before .before .before .before .before .before .before .before .before .before .before .before .before .if3 .left), test-passed (c .before .before .before .before .before .before .before .levels-in .ensures) (c .before .before .before .before .before .before .if4 .left), test-passed (c .before .before .before .before .before .ascending .ensures) (c .before .before .before .before .if5 .left), eq-eqb _ _ (c .before .before .if6 .left), test-failed (c .before .at-rest .ensures) (c .if7 .taken)) in
+    (e ∙ checks-sound s T, T)
+
+set-up-in-requires : tie.Need-set-up-in-requires
+set-up-in-requires c κs = search needs
+
+returns-8 : tie.Need-returns-8
+unfolding checks _and_
+returns-8 c = let s = c .before .before .before .before .before .before .before .before .before .before .before .before .before .before .before .before .before .before .before .before .before .before .before .before .before .before .before .before .before .before .before .before .args .s in
+    let T = typed s _ (c .before .before .before .before .before .before .before .before .before .before .before .before .before .before .before .before .before .before .before .before .before .before .before .before .before .before .before .before .before .before .before .before .good .0) in
+    let e : c .set-up-in .result ≡ checks s = rw (test-passed (c .before .before .before .before .before .before .before .before .before .before .before .before .before .before .before .before .before .before .before .before .before .before .before .before .before .before .before .before .before .before .before .tables-in .ensures) (c .before .before .before .before .before .before .before .before .before .before .before .before .before .before .before .before .before .before .before .before .before .before .before .before .before .before .before .before .before .before .if1 .left), test-passed (c .before .before .before .before .before .before .before .before .before .before .before .before .before .before .before .before .before .before .before .before .before .places-in .ensures) (c .before .before .before .before .before .before .before .before .before .before .before .before .before .before .before .before .before .before .before .before .if2 .left), test-passed (c .before .before .before .before .before .before .before .before .before .before .before .before .before .before .before .before .before .waits-in .ensures) (c .before .before .before .before .before .before .before .before .before .before .before .before .before .before .before .before .if3 .left), test-passed (c .before .before .before .before .before .before .before .before .before .before .levels-in .ensures) (c .before .before .before .before .before .before .before .before .before .if4 .left), test-passed (c .before .before .before .before .before .before .before .before .ascending .ensures) (c .before .before .before .before .before .before .before .if5 .left), eq-eqb _ _ (c .before .before .before .before .before .if6 .left), test-passed (c .before .before .before .before .at-rest .ensures) (c .before .before .before .if7 .left)) (c .set-up-in .ensures) in
     (e ∙ checks-sound s T, T)
 
 pub is-sound-spec : {M : Type 1} → statement M
@@ -102,7 +105,9 @@ is-sound-spec =
     returns-4
     ascending-requires
     returns-5
-    set-up-in-requires
-    returns-6
     started-in-requires
-    returns-7)
+    returns-6
+    at-rest-requires
+    returns-7
+    set-up-in-requires
+    returns-8)
