@@ -172,7 +172,7 @@ unfoldable pub startedIn : List ℕ → TaskList → ℕ → ℕ → Bool
 startedIn levels ready running hold = cond (eqb running noId) (eqb (ready .n) 0 and eqb hold 0)
     (cond (eqb hold 0) (cond (eqb (ready .n) 0) true (leb (keyOf levels running) (keyOf levels (firstId ready)))) true)
 
--- in set-up: nothing has begun, nothing is owned, and equal levels stand by id
+-- in set-up: the clock and scheduling stand, and nobody runs or waits; nothing is owned, outcomes are 0, and equal levels stand by id
 unfoldable pub atRest : ℕ → ℕ → ℕ → ℕ → Bool
 atRest clock hold running waiting = eqb clock 0 and eqb hold 0 and eqb running noId and eqb waiting 0
 

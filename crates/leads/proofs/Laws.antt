@@ -1,5 +1,5 @@
 -- Whom a wait leads to, read at the object's place whatever the kind of wait is.
-use mathlib.Core.Path.{_≡_, refl, sym}
+use mathlib.Core.Path.{_≡_, refl}
 use mathlib.Core.List.{List}
 use mathlib.Core.Bool.{cond}
 use Prim.Native.Nat.{ℕ, _%_}

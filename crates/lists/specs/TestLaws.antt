@@ -59,11 +59,6 @@ unfolding _or_
 or-r true b e = refl
 or-r false b e = e
 
-pub or-false : (b : Bool) → b or false ≡ b
-unfolding _or_
-or-false true = refl
-or-false false = refl
-
 -- neither part of a disjunction that fails
 pub or-none : (a b : Bool) → a or b ≡ false → (a ≡ false) × (b ≡ false)
 unfolding _or_

@@ -152,7 +152,7 @@ woke k flags slept other = putWaiting (putTasks k (endedWhere (k .tasks) flags s
 unfoldable pub lined : State → List ℕ → State
 lined k flags = putReady k (insertedFlagged (k .ready) (k .tasks .level) flags (k .tasks .n))
 
--- r waits, and nobody runs
+-- whether a wait ends at a time, and when; then r waits, and nobody runs
 unfoldable pub timedFor : ℕ → ℕ
 timedFor t = cond (eqb t forever) 0 1
 

@@ -30,7 +30,7 @@ pub fn is_time(t: u32) -> bool
 }
 
 // A step that may wait for one of `n` objects: without a caller 4 or 5, 6 for no such object, 7 for what is no time. The clause `there` tells the
-// caller's proof that an object that is there has the number of a place.
+// caller's proof that the number of an object that is there fits a byte.
 pub fn of_timed(started: u8, running: u8, n: u8, object: u32, time: u32) -> u8
     ensures number { λ r. ⌜ r ≡ timedRefusal started running n object time ⌝ }
     ensures there { λ r. ⌜ (r ≡ 0 → object < 256) ⌝ }

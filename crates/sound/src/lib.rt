@@ -58,7 +58,7 @@ fn unused_in(t: Tasks, used: &[u8; TASKS]) -> bool
     sound_tables::unused(&timed, used)
 }
 
-// Priorities, waits, their times and outcomes.
+// Priorities, waits, their times and outcomes, and the unused places of all columns.
 fn tasks_in(t: Tasks, clock: u32) -> bool
     ensures { λ r. ⌜ r ≡ tasksIn t clock ⌝ }
 {

@@ -1,19 +1,17 @@
 -- One turn and the end of each loop that tests or counts what stands in a list.
-use mathlib.Core.Path.{_≡_, refl, sym, _∙_}
+use mathlib.Core.Path.{_≡_, refl, _∙_}
 use mathlib.Core.List.{List, [], _∷_}
 use mathlib.Core.Bool.{Bool, true, false, not}
 use Prim.Native.Nat.{ℕ, _+_, _-_, _%_, _≤_, _<_}
 use native.Mathlib.Omega.{arith}
-use native.Mathlib.Numerals.{add-one}
 use borrow.Author.Tests.{lt-ltb, le-ltb, le-leb, lt-leb, eq-eqb, ne-eqb}
 use lib.Dec.{ltb, leb, eqb}
-use lib.ListN.{length, getD, set, drop, length-take, length-drop}
+use lib.ListN.{length, getD, set, drop, length-drop}
 use lib.Seq.{set-out}
-use Rattle.lists.specs.Test.{_and_, _or_, allb}
-use Rattle.lists.specs.TestLaws.{true-and, true-all, or-l, or-r}
-use Rattle.lists.specs.LoopLaws.{all-fails}
-use Rattle.lists.specs.Order.{ascb, tiesb, inside}
-use Rattle.task_lists.specs.TaskList.{places, noId, items, restEmpty, counted}
+use Rattle.lists.specs.Test.{_and_, _or_}
+use Rattle.lists.specs.TestLaws.{or-r}
+use Rattle.lists.specs.Order.{ascb, tiesb}
+use Rattle.task_lists.specs.TaskList.{items, counted}
 use Rattle.task_lists.specs.declared.TaskList.{TaskList}
 use Rattle.task_lists.specs.ItemLaws.{items-step, items-end, items-pair}
 

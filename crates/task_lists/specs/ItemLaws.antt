@@ -1,11 +1,11 @@
 -- Who stands at a place of a list, for a loop over its items.
-use mathlib.Core.Path.{_≡_, refl, ap, sym, _∙_}
+use mathlib.Core.Path.{_≡_, ap, _∙_}
 use mathlib.Core.List.{[], _∷_, _++_}
 use Prim.Native.Nat.{ℕ, _+_, _-_, _≤_, _<_}
 use native.Mathlib.Omega.{arith}
 use native.Mathlib.Numerals.{add-one}
-use lib.ListN.{length, getD, take, drop, length-take, drop-of-length-le, take-append-drop}
-use lib.Seq.{drop-cons, take-suc, take-at, getD-take}
+use lib.ListN.{length, getD, take, drop, length-take, drop-of-length-le}
+use lib.Seq.{drop-cons, take-suc, getD-take}
 use Rattle.task_lists.specs.TaskList.{places, items}
 use Rattle.task_lists.specs.declared.TaskList.{TaskList}
 
@@ -22,9 +22,6 @@ module _ (q : TaskList) where
 
   pub items-pair : (i : ℕ) → 0 < i → i < length (items q) → drop (i - 1) (items q) ≡ getD (q .ids) (i - 1) 0 ∷ getD (q .ids) i 0 ∷ drop (i + 1) (items q)
   items-pair i p h = let e : i - 1 + 1 ≡ i = omega arith in items-step (i - 1) (omega arith) ∙ rw e (ap (getD (q .ids) (i - 1) 0 ∷_) (items-step i h))
-
-  pub items-used : take (length (items q)) (q .ids) ≡ items q
-  items-used = ap (take (length (items q))) (sym (take-append-drop (q .n) (q .ids))) ∙ take-at (items q) (drop (q .n) (q .ids)) (length (items q)) refl
 
   pub items-few : length (q .ids) ≡ places → length (items q) ≤ places
   items-few h = omega (arith, length-take (q .n) (q .ids))

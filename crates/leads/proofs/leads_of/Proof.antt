@@ -5,7 +5,7 @@ use Prim.Native.Nat.{_-_, _≤_}
 use native.Mathlib.Omega.{arith}
 use Rattle.lists.specs.FillLaws.{fill-done, fill-more, fill-none, soFar}
 use Rattle.rules.specs.Sizes.{taskPlaces}
-use lib.ListN.{length, getD}
+use lib.ListN.{getD}
 use Rattle.task_lists.specs.TaskList.{noId}
 use Rattle.record.specs.Reads.{ledBy}
 use Rattle.leads.proofs.Laws.{led-same}

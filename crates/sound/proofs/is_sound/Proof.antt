@@ -1,7 +1,7 @@
 -- `sound::is_sound` meets its contract: phrase by phrase, until one fails. Assumes nothing.
 use borrow.Author.Needs.{needs}
 use mathlib.Core.Path.{_≡_, _∙_}
-use mathlib.Core.Bool.{Bool, false}
+use mathlib.Core.Bool.{false}
 use borrow.Author.Tests.{eq-eqb, ne-eqb}
 use Rattle.lists.specs.Test.{_and_}
 use Rattle.lists.specs.LoopLaws.{test-passed, test-failed}

@@ -1,6 +1,6 @@
 -- `sound_objects::empties` meets its contract. The loop: the places passed have their flags.
 use borrow.Author.Needs.{needs}
-use mathlib.Core.Path.{_≡_, _∙_}
+use mathlib.Core.Path.{_≡_}
 use Prim.Native.Nat.{_-_, _≤_}
 use native.Mathlib.Omega.{arith}
 use Rattle.lists.specs.FillLaws.{fill-done, fill-more, fill-none, soFar}

@@ -1,6 +1,5 @@
 -- `walks::lend` meets its contract. Assumes nothing.
 use borrow.Author.Needs.{needs}
-use mathlib.Core.Path.{_∙_, sym}
 use borrow.Author.Tests.{lt-ltb, le-ltb}
 use Rattle.walks.specs.Walk.{lent}
 use Rattle.walks.proofs.Laws.{raise-lower, raise-not}
