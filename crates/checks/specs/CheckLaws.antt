@@ -13,7 +13,7 @@ use borrow.Author.Tests.{ltb-true, eqb-true, lt-ltb, le-ltb, le-leb, eq-eqb, ne-
 use Rattle.lists.specs.Test.{_and_, _or_, allb, someb}
 use Rattle.lists.specs.Count.{occ}
 use Rattle.lists.specs.Order.{ascb, tiesb, inside}
-use Rattle.lists.specs.TestLaws.{which, and-l, and-r, true-and, or-true, or-r, same-test}
+use Rattle.lists.specs.TestLaws.{and-l, and-r, true-and, or-true, or-r, same-test}
 use Rattle.lists.specs.CountLaws.{occ-head}
 use Rattle.lists.specs.OrderLaws.{inside-true}
 use Rattle.rules.specs.Sizes.{taskPlaces, maxMutexes, maxSemaphores, maxHold, granted}
@@ -40,10 +40,10 @@ use Rattle.record.specs.declared.State.{State}  -- keep
 -- four tests first, and then the others
 four-first : (a b c d r : Bool) → (a and b and c and d) and r ≡ a and b and c and d and r
 unfolding _and_
-four-first a b c d r = elim (which a) [
-  | inl e ↦ elim (which b) [ inl f ↦ elim (which c) [ inl g ↦ rw (e, f, g) refl | inr g ↦ rw (e, f, g) refl ] | inr f ↦ rw (e, f) refl ]
-  | inr e ↦ rw e refl
-]
+four-first true true true d r = refl
+four-first true true false d r = refl
+four-first true false c d r = refl
+four-first false b c d r = refl
 
 -- another key that agrees on the list
 asc-same-key : (f g : ℕ → ℕ) (l : List ℕ) → ((y : ℕ) → 1 ≤ occ y l → f y ≡ g y) → ascb f l ≡ ascb g l
