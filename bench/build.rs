@@ -17,5 +17,6 @@ fn main() {
         println!("cargo:rerun-if-changed={source}");
     }
     println!("cargo:rerun-if-changed=lean.h");
+    println!("cargo:rerun-if-changed=stack.h");
     println!("cargo:rerun-if-changed=../include/cungkalisa.h");
 }

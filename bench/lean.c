@@ -1,6 +1,8 @@
 /* The lean plain kernel: intrusive lists, a word of level marks, and inheritance done step by step along the chain. */
 #include "lean.h"
 
+#include <string.h>
+
 const size_t lean_size = sizeof(struct lean);
 
 /* ---- Lists ---- */
@@ -41,9 +43,9 @@ static struct lean_task *timed_at(struct lean_link *timed)
     return (struct lean_task *)((char *)timed - offsetof(struct lean_task, timed));
 }
 
-static struct lean_mutex *mutex_at(struct lean_link *held)
+static struct lean_owned *owned_at(struct lean_link *held)
 {
-    return (struct lean_mutex *)((char *)held - offsetof(struct lean_mutex, held));
+    return (struct lean_owned *)((char *)held - offsetof(struct lean_owned, held));
 }
 
 /* ---- Ready tasks and who runs ---- */
@@ -118,7 +120,7 @@ static void end_wait(struct lean_task *t, uint8_t outcome)
 {
     take_out(&t->place);
     take_out(&t->timed);
-    t->mutex = NULL;
+    t->behind = NULL;
     t->outcome = outcome;
 }
 
@@ -136,13 +138,13 @@ static struct lean_task *best_waiter(struct lean_link *waiters)
 
 /* ---- Inheritance ---- */
 
-/* How many tasks stand on the mutex's chain; the caller, if it is met, ends it and closes a ring. */
-static uint32_t chain(const struct lean_mutex *m, const struct lean_task *caller, int *ring)
+/* How many tasks stand on the chain of what has owners; the caller, if it is met, ends it and closes a ring. */
+static uint32_t chain(const struct lean_owned *o, const struct lean_task *caller, int *ring)
 {
     uint32_t links = 0;
-    for (; m && m->owner != caller; m = m->owner->mutex)
+    for (; o && o->owner && o->owner != caller; o = o->owner->behind)
         links++;
-    *ring = m != NULL;
+    *ring = o && o->owner;
     return links;
 }
 
@@ -159,12 +161,12 @@ static uint32_t change_level(struct lean *k, struct lean_task *t, uint8_t level)
     return moved;
 }
 
-/* A task of this level has come to wait for the mutex: lifts the owners up the chain. */
-static uint32_t lift(struct lean *k, struct lean_mutex *m, uint8_t level)
+/* A task of this level has come to wait: lifts the owners up the chain. */
+static uint32_t lift(struct lean *k, struct lean_owned *o, uint8_t level)
 {
     uint32_t moved = 0;
-    for (; m && m->inheriting && m->owner->level > level; m = m->owner->mutex)
-        moved |= change_level(k, m->owner, level);
+    for (; o && o->inheriting && o->owner->level > level; o = o->owner->behind)
+        moved |= change_level(k, o->owner, level);
     return moved;
 }
 
@@ -172,20 +174,20 @@ static uint8_t level_of(struct lean_task *t)
 {
     uint8_t level = t->priority;
     for (struct lean_link *at = t->owned.next; at != &t->owned; at = at->next) {
-        const struct lean_task *best = best_waiter(&mutex_at(at)->waiters);
+        const struct lean_task *best = best_waiter(&owned_at(at)->waiters);
         if (best && best->level < level)
             level = best->level;
     }
     return level;
 }
 
-/* A task of this level no longer waits for the mutex, or is no longer of this level: lowers the owners up the chain, as far as
- * it was the one that had lifted them. */
-static uint32_t lower(struct lean *k, struct lean_mutex *m, uint8_t gone)
+/* A task of this level no longer waits, or is no longer of this level: lowers the owners up the chain, as far as it was the
+ * one that had lifted them. */
+static uint32_t lower(struct lean *k, struct lean_owned *o, uint8_t gone)
 {
     uint32_t moved = 0;
-    for (; m && m->inheriting; m = m->owner->mutex) {
-        struct lean_task *owner = m->owner;
+    for (; o && o->inheriting; o = o->owner->behind) {
+        struct lean_task *owner = o->owner;
         if (owner->level != gone || owner->priority == gone)
             break;
         uint8_t level = level_of(owner);
@@ -196,11 +198,42 @@ static uint32_t lower(struct lean *k, struct lean_mutex *m, uint8_t gone)
     return moved;
 }
 
-static void own(struct lean_mutex *m, struct lean_task *t)
+static void own(struct lean_owned *o, struct lean_task *t)
 {
-    m->owner = t;
-    if (m->inheriting)
-        put_before(&t->owned, &m->held);
+    o->owner = t;
+    if (o->inheriting)
+        put_before(&t->owned, &o->held);
+}
+
+static void make_owned(struct lean_owned *o, uint8_t inheriting)
+{
+    alone(&o->waiters);
+    alone(&o->held);
+    o->owner = NULL;
+    o->inheriting = inheriting;
+}
+
+/* ---- Messages ---- */
+
+/* The block's words for the message that stands so many behind the oldest. */
+static uint32_t *message_at(const struct lean_queue *q, uint32_t *block, uint32_t behind)
+{
+    uint32_t place = q->oldest + behind;
+    if (place >= q->depth)
+        place -= q->depth;
+    return block + q->start + place * q->width;
+}
+
+static void put_words(uint32_t *to, const uint32_t *words, uint32_t count)
+{
+    memcpy(to, words, count * sizeof *to);
+}
+
+/* The task holds the message, and zeros behind it. */
+static void hold_words(struct lean_task *t, const uint32_t *message, uint32_t count)
+{
+    put_words(t->words, message, count);
+    memset(t->words + count, 0, (CUNGKALISA_WORDS - count) * sizeof *t->words);
 }
 
 /* ---- The steps. Each gives the answer's number, and its value above it; phase and caller are looked at before. ---- */
@@ -225,7 +258,8 @@ static uint64_t make_task(struct lean *k, uint32_t priority)
     alone(&t->place);
     alone(&t->timed);
     alone(&t->owned);
-    t->mutex = NULL;
+    t->behind = NULL;
+    memset(t->words, 0, sizeof t->words);
     t->id = k->tasks_made++;
     t->priority = (uint8_t)priority;
     t->level = (uint8_t)priority;
@@ -240,11 +274,7 @@ static uint64_t make_mutex(struct lean *k, uint32_t kind)
         return CUNGKALISA_OUT_OF_RANGE;
     if (k->mutexes_made == CUNGKALISA_MUTEXES)
         return CUNGKALISA_FULL;
-    struct lean_mutex *m = &k->mutexes[k->mutexes_made];
-    alone(&m->waiters);
-    alone(&m->held);
-    m->owner = NULL;
-    m->inheriting = (uint8_t)kind;
+    make_owned(&k->mutexes[k->mutexes_made], (uint8_t)kind);
     return with_value(CUNGKALISA_DONE, k->mutexes_made++);
 }
 
@@ -261,11 +291,57 @@ static uint64_t make_semaphore(struct lean *k, uint32_t count, uint32_t maximum)
     return with_value(CUNGKALISA_DONE, k->semaphores_made++);
 }
 
+/* The owner is a task, or NULL. */
+static uint64_t make_queue(struct lean *k, uint32_t width, uint32_t depth, struct lean_task *owner, uint64_t block_words)
+{
+    if ((width != 1 && width != 2 && width != 4 && width != 8) || depth == 0 || depth > CUNGKALISA_MOST_MESSAGES)
+        return CUNGKALISA_OUT_OF_RANGE;
+    if (k->queues_made == CUNGKALISA_QUEUES || k->block_used + width * depth > block_words)
+        return CUNGKALISA_FULL;
+    struct lean_queue *q = &k->queues[k->queues_made];
+    make_owned(&q->room, owner != NULL);
+    if (owner)
+        own(&q->room, owner);
+    alone(&q->receivers);
+    q->start = k->block_used;
+    q->width = (uint8_t)width;
+    q->depth = (uint8_t)depth;
+    q->oldest = 0;
+    q->used = 0;
+    k->block_used += width * depth;
+    return with_value(CUNGKALISA_DONE, k->queues_made++);
+}
+
+static uint64_t make_queue_owned(struct lean *k, uint32_t width, uint32_t depth, uint32_t owner, uint64_t block_words)
+{
+    if (owner >= k->tasks_made)
+        return CUNGKALISA_NO_SUCH;
+    return make_queue(k, width, depth, &k->tasks[owner], block_words);
+}
+
 static uint64_t start(struct lean *k)
 {
     k->started = 1;
     dispatch(k);
     return CUNGKALISA_DONE;
+}
+
+/* The running task waits for what another owns, or nobody does. */
+static uint64_t wait_behind(struct lean *k, struct lean_owned *o, uint32_t time)
+{
+    struct lean_task *caller = k->running;
+    if (time == 0)
+        return CUNGKALISA_WOULD_WAIT;
+    if (k->hold)
+        return CUNGKALISA_HELD;
+    int ring;
+    uint32_t links = chain(o, caller, &ring);
+    if (ring)
+        return with_value(CUNGKALISA_RING, links);
+    begin_wait(k, &o->waiters, time, CUNGKALISA_TIMED_OUT)->behind = o;
+    all_ready(k, lift(k, o, caller->level));
+    dispatch(k);
+    return with_value(CUNGKALISA_WAITS, links);
 }
 
 static uint64_t lock(struct lean *k, uint32_t mutex, uint32_t time)
@@ -274,26 +350,14 @@ static uint64_t lock(struct lean *k, uint32_t mutex, uint32_t time)
         return CUNGKALISA_NO_SUCH;
     if (is_no_time(time))
         return CUNGKALISA_OUT_OF_RANGE;
-    struct lean_mutex *m = &k->mutexes[mutex];
-    struct lean_task *caller = k->running;
+    struct lean_owned *m = &k->mutexes[mutex];
     if (!m->owner) {
-        own(m, caller);
+        own(m, k->running);
         return CUNGKALISA_DONE;
     }
-    if (m->owner == caller)
+    if (m->owner == k->running)
         return CUNGKALISA_ALREADY_OWNED;
-    if (time == 0)
-        return CUNGKALISA_WOULD_WAIT;
-    if (k->hold)
-        return CUNGKALISA_HELD;
-    int ring;
-    uint32_t links = chain(m, caller, &ring);
-    if (ring)
-        return with_value(CUNGKALISA_RING, links);
-    begin_wait(k, &m->waiters, time, CUNGKALISA_TIMED_OUT)->mutex = m;
-    all_ready(k, lift(k, m, caller->level));
-    dispatch(k);
-    return with_value(CUNGKALISA_WAITS, links);
+    return wait_behind(k, m, time);
 }
 
 /* The new owner keeps its level: nobody who still waits is more urgent. */
@@ -301,7 +365,7 @@ static uint64_t unlock(struct lean *k, uint32_t mutex)
 {
     if (mutex >= k->mutexes_made)
         return CUNGKALISA_NO_SUCH;
-    struct lean_mutex *m = &k->mutexes[mutex];
+    struct lean_owned *m = &k->mutexes[mutex];
     if (m->owner != k->running)
         return CUNGKALISA_NOT_OWNER;
     take_out(&m->held);
@@ -313,6 +377,69 @@ static uint64_t unlock(struct lean *k, uint32_t mutex)
     end_wait(best, CUNGKALISA_GRANTED);
     lower(k, m, best->level);
     own(m, best);
+    ready_at_tail(k, best);
+    dispatch(k);
+    return CUNGKALISA_DONE;
+}
+
+static uint64_t send(struct lean *k, uint32_t queue, uint32_t time, const uint32_t *message, uint64_t count, uint32_t *block)
+{
+    if (queue >= k->queues_made)
+        return CUNGKALISA_NO_SUCH;
+    struct lean_queue *q = &k->queues[queue];
+    if (is_no_time(time) || count != q->width)
+        return CUNGKALISA_OUT_OF_RANGE;
+    struct lean_task *caller = k->running;
+    struct lean_task *best = best_waiter(&q->receivers);
+    if (best) {
+        hold_words(best, message, q->width);
+        end_wait(best, CUNGKALISA_GRANTED);
+        ready_at_tail(k, best);
+        dispatch(k);
+        return CUNGKALISA_DONE;
+    }
+    if (q->used < q->depth) {
+        put_words(message_at(q, block, q->used++), message, q->width);
+        return CUNGKALISA_DONE;
+    }
+    if (q->room.owner == caller)
+        return CUNGKALISA_ALREADY_OWNED;
+    uint64_t answer = wait_behind(k, &q->room, time);
+    if ((uint8_t)answer == CUNGKALISA_WAITS)
+        hold_words(caller, message, q->width);
+    return answer;
+}
+
+static uint64_t receive(struct lean *k, uint32_t queue, uint32_t time, uint32_t *block)
+{
+    if (queue >= k->queues_made)
+        return CUNGKALISA_NO_SUCH;
+    if (is_no_time(time))
+        return CUNGKALISA_OUT_OF_RANGE;
+    struct lean_queue *q = &k->queues[queue];
+    if (q->room.owner && q->room.owner != k->running)
+        return CUNGKALISA_NOT_OWNER;
+    if (q->used == 0) {
+        if (time == 0)
+            return CUNGKALISA_WOULD_WAIT;
+        if (k->hold)
+            return CUNGKALISA_HELD;
+        begin_wait(k, &q->receivers, time, CUNGKALISA_TIMED_OUT);
+        dispatch(k);
+        return CUNGKALISA_WAITS;
+    }
+    uint32_t *oldest = message_at(q, block, 0);
+    hold_words(k->running, oldest, q->width);
+    q->oldest = (uint8_t)(q->oldest + 1 == q->depth ? 0 : q->oldest + 1);
+    struct lean_task *best = best_waiter(&q->room.waiters);
+    if (!best) {
+        q->used--;
+        return CUNGKALISA_DONE;
+    }
+    /* The place that the oldest had is the tail now. */
+    put_words(oldest, best->words, q->width);
+    end_wait(best, CUNGKALISA_GRANTED);
+    lower(k, &q->room, best->level);
     ready_at_tail(k, best);
     dispatch(k);
     return CUNGKALISA_DONE;
@@ -417,10 +544,10 @@ static uint64_t tick(struct lean *k)
     k->clock++;
     while (!is_alone(&k->timed) && timed_at(k->timed.next)->due == k->clock) {
         struct lean_task *t = timed_at(k->timed.next);
-        struct lean_mutex *m = t->mutex;
+        struct lean_owned *behind = t->behind;
         end_wait(t, t->late);
         woken |= 1u << t->id;
-        moved |= lower(k, m, t->level);
+        moved |= lower(k, behind, t->level);
     }
     if (!woken)
         return CUNGKALISA_DONE;
@@ -432,13 +559,18 @@ static uint64_t tick(struct lean *k)
 
 /* ---- The step of a code ---- */
 
-/* Bit c: the step of code c is made by a running task. */
+/* Bit c: the step of code c is one of set-up, is made by a running task, asks what may be asked in any phase. */
+#define OF_SET_UP                                                                                              \
+    (1u << CUNGKALISA_STEP_TASK | 1u << CUNGKALISA_STEP_MUTEX | 1u << CUNGKALISA_STEP_SEM |                    \
+     1u << CUNGKALISA_STEP_START | 1u << CUNGKALISA_STEP_QUEUE | 1u << CUNGKALISA_STEP_QUEUE_OWNED)
 #define BY_A_TASK                                                                                              \
     (1u << CUNGKALISA_STEP_LOCK | 1u << CUNGKALISA_STEP_UNLOCK | 1u << CUNGKALISA_STEP_PEND |                  \
      1u << CUNGKALISA_STEP_SLEEP | 1u << CUNGKALISA_STEP_YIELD | 1u << CUNGKALISA_STEP_HOLD |                  \
-     1u << CUNGKALISA_STEP_FREE)
+     1u << CUNGKALISA_STEP_FREE | 1u << CUNGKALISA_STEP_SEND | 1u << CUNGKALISA_STEP_RECEIVE)
+#define ASKED (1u << CUNGKALISA_STEP_LEVEL | 1u << CUNGKALISA_STEP_OUTCOME | 1u << CUNGKALISA_STEP_WORD)
 
-static uint64_t started_step(struct lean *k, uint32_t code, uint32_t a, uint32_t b)
+static uint64_t started_step(struct lean *k, uint32_t code, uint32_t a, uint32_t b, const uint32_t *message, uint64_t count,
+                             uint32_t *block)
 {
     if (!k->started)
         return CUNGKALISA_WRONG_PHASE;
@@ -454,11 +586,13 @@ static uint64_t started_step(struct lean *k, uint32_t code, uint32_t a, uint32_t
     case CUNGKALISA_STEP_YIELD: return yield(k);
     case CUNGKALISA_STEP_HOLD: return hold(k);
     case CUNGKALISA_STEP_FREE: return free_again(k);
+    case CUNGKALISA_STEP_SEND: return send(k, a, b, message, count, block);
+    case CUNGKALISA_STEP_RECEIVE: return receive(k, a, b, block);
     default: return tick(k);
     }
 }
 
-static uint64_t set_up_step(struct lean *k, uint32_t code, uint32_t a, uint32_t b)
+static uint64_t set_up_step(struct lean *k, uint32_t code, uint32_t a, uint32_t b, uint32_t c, uint64_t block_words)
 {
     if (k->started)
         return CUNGKALISA_WRONG_PHASE;
@@ -466,30 +600,42 @@ static uint64_t set_up_step(struct lean *k, uint32_t code, uint32_t a, uint32_t 
     case CUNGKALISA_STEP_TASK: return make_task(k, a);
     case CUNGKALISA_STEP_MUTEX: return make_mutex(k, a);
     case CUNGKALISA_STEP_SEM: return make_semaphore(k, a, b);
+    case CUNGKALISA_STEP_QUEUE: return make_queue(k, a, b, NULL, block_words);
+    case CUNGKALISA_STEP_QUEUE_OWNED: return make_queue_owned(k, a, b, c, block_words);
     default: return start(k);
     }
 }
 
-static uint64_t asked(const struct lean *k, uint32_t code, uint32_t task)
+static uint64_t asked(const struct lean *k, uint32_t code, uint32_t task, uint32_t n)
 {
-    if (code > CUNGKALISA_STEP_OUTCOME)
-        return CUNGKALISA_NO_STEP;
     if (task >= k->tasks_made)
         return CUNGKALISA_NO_SUCH;
     if (code == CUNGKALISA_STEP_LEVEL)
         return with_value(CUNGKALISA_DONE, k->tasks[task].level);
-    return with_value(CUNGKALISA_DONE, k->tasks[task].outcome);
+    if (code == CUNGKALISA_STEP_OUTCOME)
+        return with_value(CUNGKALISA_DONE, k->tasks[task].outcome);
+    if (n >= CUNGKALISA_WORDS)
+        return CUNGKALISA_OUT_OF_RANGE;
+    return with_value(CUNGKALISA_DONE, k->tasks[task].words[n]);
 }
 
-uint64_t lean_step(struct lean *k, uint32_t code, uint32_t a, uint32_t b)
+static int is_no_step(uint32_t code, uint64_t count)
+{
+    return code > CUNGKALISA_STEP_WORD || (code == CUNGKALISA_STEP_SEND && (count == 0 || count > CUNGKALISA_WORDS));
+}
+
+uint64_t lean_step(struct lean *k, uint32_t code, uint32_t a, uint32_t b, uint32_t c, const uint32_t *message, uint64_t count,
+                   uint32_t *block, uint64_t block_words)
 {
     uint64_t answer;
-    if (code <= CUNGKALISA_STEP_START)
-        answer = set_up_step(k, code, a, b);
-    else if (code <= CUNGKALISA_STEP_TICK)
-        answer = started_step(k, code, a, b);
+    if (is_no_step(code, count))
+        answer = CUNGKALISA_NO_STEP;
+    else if (OF_SET_UP >> code & 1)
+        answer = set_up_step(k, code, a, b, c, block_words);
+    else if (ASKED >> code & 1)
+        answer = asked(k, code, a, b);
     else
-        answer = asked(k, code, a);
+        answer = started_step(k, code, a, b, message, count, block);
     return answer | (uint64_t)(k->running ? k->running->id : CUNGKALISA_NONE) << 8;
 }
 
@@ -506,4 +652,6 @@ void lean_fresh(struct lean *k)
     k->tasks_made = 0;
     k->mutexes_made = 0;
     k->semaphores_made = 0;
+    k->queues_made = 0;
+    k->block_used = 0;
 }

@@ -7,13 +7,17 @@
 /* How many bytes are read and written at once. */
 #define PIECE 16384
 
-#define LONGEST_LINE 80
+#define LONGEST_LINE 160
 
 /* No log line is longer. */
-#define LOG_LINE 16
+#define LOG_LINE 24
+
+/* How many words a script's queues have. */
+#define BLOCK 4096
 
 struct session {
     struct lean kernel;
+    uint32_t block[BLOCK];
     int begun;  /* the first line was a script's */
     int failed; /* the log could not be written */
     size_t written;
@@ -36,11 +40,10 @@ static void write_log(struct session *s)
     s->written = 0;
 }
 
-/* A number below 100: every number, id, level, outcome and count of links is. */
 static char *put_number(char *at, uint32_t n)
 {
     if (n >= 10)
-        *at++ = (char)('0' + n / 10);
+        at = put_number(at, n / 10);
     *at++ = (char)('0' + n % 10);
     return at;
 }
@@ -66,20 +69,27 @@ static void log_answer(struct session *s, uint64_t answer)
 
 #define LONGEST_NAME 7
 
+/* No line has more: a queue, a time and a message. */
+#define MOST_NUMBERS (2 + CUNGKALISA_WORDS)
+
 /* The steps in the order of their codes. Tabs fill the names, since no name on a line has one. */
 static const struct {
     char name[LONGEST_NAME + 2];
-    uint8_t numbers;
+    uint8_t least; /* numbers on the line */
+    uint8_t most;
 } steps[] = {
-    {"task\t\t\t\t", 1},   {"mutex\t\t\t", 1},   {"sem\t\t\t\t\t", 2}, {"start\t\t\t", 0},
-    {"lock\t\t\t\t", 2},   {"unlock\t\t", 1},    {"pend\t\t\t\t", 2},  {"post\t\t\t\t", 1},
-    {"flush\t\t\t", 1},    {"sleep\t\t\t", 1},   {"yield\t\t\t", 0},   {"hold\t\t\t\t", 0},
-    {"free\t\t\t\t", 0},   {"tick\t\t\t\t", 0},  {"level\t\t\t", 1},   {"outcome\t", 1},
+    {"task\t\t\t\t", 1, 1},  {"mutex\t\t\t", 1, 1},  {"sem\t\t\t\t\t", 2, 2}, {"start\t\t\t", 0, 0},
+    {"lock\t\t\t\t", 2, 2},  {"unlock\t\t", 1, 1},   {"pend\t\t\t\t", 2, 2},  {"post\t\t\t\t", 1, 1},
+    {"flush\t\t\t", 1, 1},   {"sleep\t\t\t", 1, 1},  {"yield\t\t\t", 0, 0},   {"hold\t\t\t\t", 0, 0},
+    {"free\t\t\t\t", 0, 0},  {"tick\t\t\t\t", 0, 0}, {"level\t\t\t", 1, 1},   {"outcome\t", 1, 1},
+    {"queue\t\t\t", 2, 2},   {"queue\t\t\t", 3, 3},  {"send\t\t\t\t", 3, 10}, {"receive\t", 2, 2},
+    {"word\t\t\t\t", 2, 2},
 };
 
 enum { NO_STEP = sizeof steps / sizeof steps[0] };
 
-static uint32_t code_of(const char *name, size_t length)
+/* The code of a name with so many numbers. */
+static uint32_t code_of(const char *name, size_t length, uint32_t numbers)
 {
     char filled[LONGEST_NAME + 1];
     uint32_t code = 0;
@@ -87,7 +97,8 @@ static uint32_t code_of(const char *name, size_t length)
         return NO_STEP;
     memset(filled, '\t', sizeof filled);
     memcpy(filled, name, length);
-    while (code < NO_STEP && memcmp(steps[code].name, filled, sizeof filled) != 0)
+    while (code < NO_STEP && (memcmp(steps[code].name, filled, sizeof filled) != 0 || numbers < steps[code].least ||
+                              numbers > steps[code].most))
         code++;
     return code;
 }
@@ -107,19 +118,32 @@ static const char *read_number(const char *at, const char *end, uint32_t *number
     return at;
 }
 
-static uint64_t run_line(struct lean *k, const char *line, size_t length)
+/* Tabs and numbers to the end: gives how many there are, more than any step has where something else is among them. */
+static uint32_t read_numbers(const char *at, const char *end, uint32_t numbers[MOST_NUMBERS])
+{
+    uint32_t count = 0;
+    while (at != end) {
+        if (count == MOST_NUMBERS || !(at = read_number(at, end, &numbers[count])))
+            return MOST_NUMBERS + 1;
+        count++;
+    }
+    return count;
+}
+
+static uint64_t run_line(struct session *s, const char *line, size_t length)
 {
     const char *end = line + length;
     const char *at = line;
-    uint32_t numbers[2] = {0, 0};
-    if (length > LONGEST_LINE)
-        return lean_step(k, NO_STEP, 0, 0);
-    while (at < end && *at != '\t')
-        at++;
-    uint32_t code = code_of(line, (size_t)(at - line));
-    for (uint32_t i = 0; code < NO_STEP && at && i < steps[code].numbers; i++)
-        at = read_number(at, end, &numbers[i]);
-    return lean_step(k, at == end ? code : NO_STEP, numbers[0], numbers[1]);
+    uint32_t numbers[MOST_NUMBERS] = {0}, code = NO_STEP, count = 0;
+    if (length <= LONGEST_LINE) {
+        while (at < end && *at != '\t')
+            at++;
+        count = read_numbers(at, end, numbers);
+        code = code_of(line, (size_t)(at - line), count);
+    }
+    /* What stands behind a send's queue and time is its message. */
+    uint64_t words = code == CUNGKALISA_STEP_SEND ? count - 2 : 0;
+    return lean_step(&s->kernel, code, numbers[0], numbers[1], numbers[2], numbers + 2, words, s->block, BLOCK);
 }
 
 /* ---- Scripts ---- */
@@ -137,7 +161,7 @@ static int take_line(struct session *s, const char *line, size_t length)
 {
     if (!s->begun)
         return begin(s, line, length);
-    log_answer(s, run_line(&s->kernel, line, length));
+    log_answer(s, run_line(s, line, length));
     return 1;
 }
 

@@ -4,6 +4,7 @@ use crate::linked::{cungkalisa_step, lean_step, stack_no_step, stack_of, Lean, S
 use crate::loads;
 use crate::passes::List;
 use compare::{Bytes, Call};
+use outside::script::BLOCK;
 use std::ffi::c_void;
 use std::ptr::null_mut;
 
@@ -12,7 +13,7 @@ const PATTERNS: [u8; 2] = [0xa5, 0x5a];
 pub fn table() {
     println!("| load | tasks | in place / lean | in place, bytes | lean, bytes |");
     println!("|---|---|---|---|---|");
-    let (mut bytes, mut kernel) = (Bytes([0; 292]), Lean::new());
+    let (mut bytes, mut kernel) = (Bytes::default(), Lean::new());
     for load in loads::NAMES {
         let List { calls, .. } = List::new(load, 16);
         let no_step = deepest(stack_no_step, &calls, || null_mut());
@@ -33,10 +34,10 @@ pub fn table() {
 
 /// The most that any step of the list changes, from its caller's frame on: the list is run on a fresh state for each pattern.
 fn deepest(step: StepFunction, calls: &[Call], mut fresh: impl FnMut() -> *mut c_void) -> usize {
-    let mut most = 0;
+    let (mut most, mut block) = (0, [0; BLOCK]);
     for pattern in PATTERNS {
         let place = fresh();
-        let used = calls.iter().map(|&call| stack_of(step, place, call, pattern));
+        let used = calls.iter().map(|call| stack_of(step, place, call, &mut block, pattern));
         most = used.fold(most, usize::max);
     }
     most

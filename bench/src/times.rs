@@ -1,4 +1,4 @@
-//! Nanoseconds for each step: the proved library in place and by value, the second implementation and the lean kernel.
+//! Nanoseconds for each step: the proved library in place, the second implementation and the lean kernel.
 
 use crate::linked::lower;
 use crate::loads;
@@ -24,16 +24,16 @@ pub fn of<const N: usize>(list: &List, whats: [&str; N]) -> [f64; N] {
 }
 
 pub fn table() {
-    print!("| load | tasks | in place / lean | in place / plain | in place, ns | by value, ns | of each the test, ns ");
+    print!("| load | tasks | in place / lean | in place / plain | in place, ns | of that the test, ns ");
     println!("| lean, ns | plain, ns | of that copying, ns |");
-    println!("|---|---|---|---|---|---|---|---|---|---|");
+    println!("|---|---|---|---|---|---|---|---|---|");
     for load in loads::NAMES {
         for tasks in [1, 4, 16] {
             let list = List::new(load, tasks);
-            let whats = ["in-place", "by-value", "test", "lean", "plain", "copy"];
-            let [in_place, by_value, test, lean, plain, copy] = of(&list, whats);
+            let whats = ["in-place", "test", "lean", "plain", "copy"];
+            let [in_place, test, lean, plain, copy] = of(&list, whats);
             print!("| {load} | {tasks} | {:.1} | {:.1} ", in_place / lean, in_place / plain);
-            print!("| {in_place:.0} | {by_value:.0} | {test:.0} | {lean:.1} ");
+            print!("| {in_place:.0} | {test:.0} | {lean:.1} ");
             println!("| {plain:.0} | {copy:.0} |");
         }
     }

@@ -1,4 +1,4 @@
-//! Random steps on both implementations, in place and by value, each record and each answer compared.
+//! Random steps on both implementations, in place and by value, each record, block and answer compared.
 //!
 //!     compare [--steps N] [--seed S] [--layout]
 //!
@@ -7,33 +7,39 @@
 
 mod choose;
 
-use choose::{call, damage, set_clock, Way};
-use compare::{parts, Bytes, Call};
+use choose::{block_words, call, changed_at, damage, damage_block, set_clock, sweep_at, Way};
+use compare::{parts, Bytes, Call, STATE};
 use outside::kernel::State;
-use outside::record::{self, from_record, is_sound, Record, NONE};
 use outside::random::Random;
+use outside::record::{self, from_record, is_sound, Kept, Record, NONE};
 use std::mem::offset_of;
 use std::process::ExitCode;
 
 /// How many steps a run has.
-const RUN: u64 = 500;
+const RUN: usize = 500;
+
+/// How many words stand behind the block that is lent, to see that none of them is changed.
+const BEHIND: usize = 8;
 
 /// What was seen, to tell that much was.
 #[derive(Default)]
 struct Seen {
     steps: u64,
     numbers: [u64; 16],
-    links: u32,
+    links_of_lock: u32,
+    links_of_send: u32,
     sound: u64,
     unsound: u64,
 }
 
 impl Seen {
-    fn note(&mut self, call: Call, number: u8, value: u32, sound: bool) {
+    fn note(&mut self, call: &Call, number: u8, value: u32, sound: bool) {
         self.steps += 1;
         self.numbers[number as usize] += 1;
-        if call.code == 4 {
-            self.links = self.links.max(value);
+        match call.code {
+            4 => self.links_of_lock = self.links_of_lock.max(value),
+            18 => self.links_of_send = self.links_of_send.max(value),
+            _ => {}
         }
         *if sound { &mut self.sound } else { &mut self.unsound } += 1;
     }
@@ -65,9 +71,11 @@ fn main() -> ExitCode {
         }
         of_run += 1;
     }
-    println!("answers 0 to 15: {:?}; links up to {}", seen.numbers, seen.links);
+    println!("answers 0 to 15: {:?}", seen.numbers);
+    println!("links up to {} by lock, {} by send", seen.links_of_lock, seen.links_of_send);
     println!("records: {} sound, {} not", seen.sound, seen.unsound);
-    if steps >= 1_000_000 && (seen.numbers.contains(&0) || seen.links < 8) {
+    let few_links = seen.links_of_lock < 8 || seen.links_of_send < 8;
+    if steps >= 1_000_000 && (seen.numbers.contains(&0) || few_links) {
         println!("compare: not every answer was seen");
         return ExitCode::FAILURE;
     }
@@ -75,68 +83,99 @@ fn main() -> ExitCode {
     ExitCode::SUCCESS
 }
 
-/// One run: a record made fresh, stepped, and now and then damaged.
+/// One run: a record made fresh, stepped, and now and then damaged, and its block with it.
 fn run(seed: u64, seen: &mut Seen) -> Result<(), String> {
     let mut random = Random(seed.wrapping_mul(0x9e37_79b9_7f4a_7c15));
-    let mut bytes = Bytes([0; 292]);
-    bytes.0.fill_with(|| random.next() as u8);
+    let mut bytes = Bytes::default();
+    bytes.state.0.fill_with(|| random.next() as u8);
+    bytes.words.fill_with(|| random.next() as u32);
     bytes.fresh();
-    if bytes.record() != record::fresh() {
-        return Err(format!("the fresh record is {:?}", bytes.record()));
+    if bytes.kept() != record::fresh() {
+        return Err(format!("the fresh record is {:?}", bytes.kept()));
     }
+    let length = block_words(&mut random);
+    let mut block = vec![0; length + BEHIND];
+    block.fill_with(|| random.next() as u32);
     let mut state = State::default();
-    for _ in 0..RUN {
+    let sweeps_at = sweep_at(&mut random, RUN);
+    for step in 0..RUN {
         let call = call(&mut random, &state, Way::of(seed));
-        let mut other = bytes;
-        damage(&mut random, &mut other);
-        step_both(&mut other, call, seen)?;
-        step_both(&mut bytes, call, seen)?;
-        if random.one_in(100) && is_sound(&other.record()) {
-            bytes = other;
+        if sweeps_at == Some(step) {
+            sweep(&mut random, &bytes, &block, length, &call, seen)?;
         }
-        if random.one_in(60) && bytes.record().started == 1 {
-            let mut r = bytes.record();
+        let (mut other, mut other_block) = (bytes, block.clone());
+        damage(&mut random, &mut other);
+        let other_length = damage_block(&mut random, &mut other_block[..length]);
+        step_both(&mut other, &mut other_block, other_length, &call, seen)?;
+        step_both(&mut bytes, &mut block, length, &call, seen)?;
+        if random.one_in(100) && is_sound(&other.kept(), length) {
+            (bytes, block) = (other, other_block);
+        }
+        if random.one_in(60) && bytes.kept().record.started == 1 {
+            let mut r = bytes.kept().record;
             set_clock(&mut random, &mut r);
             bytes.set(&r);
         }
-        state = from_record(&bytes.record());
+        state = from_record(&bytes.kept(), &block);
     }
     Ok(())
 }
 
-/// What the second implementation gives: record, number, value, task to run.
-fn expected(r: &Record, sound: bool, call: Call) -> (Record, u8, u32, u8) {
+/// Each byte of the state and each word held changed alone, in turn, and the same step made.
+fn sweep(
+    random: &mut Random,
+    bytes: &Bytes,
+    block: &[u32],
+    length: usize,
+    call: &Call,
+    seen: &mut Seen,
+) -> Result<(), String> {
+    for at in 0..STATE + bytes.words.len() {
+        let mut other = changed_at(random, bytes, at);
+        step_both(&mut other, &mut block.to_vec(), length, call, seen)?;
+    }
+    Ok(())
+}
+
+/// What the second implementation gives: record, number, value, task to run. It changes the block.
+fn expected(kept: &Kept, sound: bool, call: &Call, block: &mut [u32]) -> (Kept, u8, u32, u8) {
     let Some(s) = call.step() else {
         // As a line that is no step: the running task as it stands, none where the record isn't sound.
-        return (r.clone(), 14, 0, if sound { r.running } else { NONE });
+        return (kept.clone(), 14, 0, if sound { kept.record.running } else { NONE });
     };
-    let (next, answer) = record::step(r, s);
+    let (next, answer) = record::step(kept, s, block);
     (next, answer.number as u8, answer.value, answer.run.map_or(NONE, |i| i as u8))
 }
 
-/// The same step on both, all of what comes back compared.
-fn step_both(bytes: &mut Bytes, call: Call, seen: &mut Seen) -> Result<(), String> {
+/// The same step on both, with so many words of the block, all of what comes back compared, and what stands behind them.
+fn step_both(
+    bytes: &mut Bytes,
+    block: &mut [u32],
+    length: usize,
+    call: &Call,
+    seen: &mut Seen,
+) -> Result<(), String> {
     let before = *bytes;
-    let r = before.record();
-    let sound = is_sound(&r);
-    let differs = |what: String| Err(format!("{call:?} on {r:?}: {what}"));
-    if before.is_sound() != sound {
-        return differs(format!("sound {} and {sound}", before.is_sound()));
+    let kept = before.kept();
+    let sound = is_sound(&kept, length);
+    let differs = |what: String| Err(format!("{call:?}, {length} words, on {kept:?}: {what}"));
+    if before.is_sound(length) != sound {
+        return differs(format!("sound {} and {sound}", before.is_sound(length)));
     }
-    let (record, number, value, run) = expected(&r, sound, call);
-    let answer = bytes.step(call);
+    let mut expected_block = block.to_vec();
+    let (record, number, value, run) = expected(&kept, sound, call, &mut expected_block[..length]);
+    let answer = bytes.step(call, &mut block[..length]);
     if parts(answer) != (number, value, run) {
         return differs(format!("{:?} and {:?}", parts(answer), (number, value, run)));
     }
     if answer != u64::from(value) << 32 | u64::from(run) << 8 | u64::from(number) {
         return differs(format!("the answer packed is {answer:#x}"));
     }
-    if bytes.record() != record {
-        return differs(format!("{:?} and {record:?}", bytes.record()));
+    if bytes.kept() != record {
+        return differs(format!("{:?} and {record:?}", bytes.kept()));
     }
-    let after = before.stepped(call);
-    if after.answer != answer || after.bytes.record() != record {
-        return differs(format!("by value {:#x}, {:?}", after.answer, after.bytes.record()));
+    if let Some(at) = (0..block.len()).find(|&at| block[at] != expected_block[at]) {
+        return differs(format!("word {at}: {} and {}", block[at], expected_block[at]));
     }
     if number > 1 && *bytes != before {
         return differs("a refusal changed bytes that no field has".to_string());
@@ -175,6 +214,8 @@ fn layout() -> ExitCode {
         mutexes.owner,
         mutexes.n
     );
+    fields!(queues.width, queues.depth, queues.owner, queues.oldest, queues.used, queues.n);
     fields!(ready.ids, ready.n, waiting.ids, waiting.n, started, hold, running);
+    println!("words {} {}", offset_of!(Kept, words), size(|kept: &Kept| &kept.words));
     ExitCode::SUCCESS
 }

@@ -1,7 +1,7 @@
 //! Random steps, lines and scripts, the same for the same seed.
 
-use crate::kernel::{Object, State, Step, Task, Wait, FOREVER, LONGEST};
-use crate::script::{line_on_state, parse, text};
+use crate::kernel::{Message, Object, State, Step, Task, Wait, FOREVER, LONGEST, WORDS};
+use crate::script::{line_on_state, parse, text, LONGEST_LINE};
 
 /// The generator known as splitmix64.
 pub struct Random(pub u64);
@@ -56,8 +56,15 @@ impl Random {
 
 /// A step that mostly makes sense in the state.
 pub fn step(random: &mut Random, state: &State) -> Step {
-    let set_up = if random.one_in(50) { state.started } else { !state.started };
-    if set_up {
+    match random.below(10) {
+        0..=2 => queue_step(random, state),
+        _ => plain_step(random, state),
+    }
+}
+
+/// The same, of those that have nothing to do with queues.
+pub fn plain_step(random: &mut Random, state: &State) -> Step {
+    if is_for_set_up(random, state) {
         let most = random.odd().max(1);
         return match random.below(40) {
             0..=15 if random.one_in(2) => Step::Task(random.below(4) as u32),
@@ -73,14 +80,14 @@ pub fn step(random: &mut Random, state: &State) -> Step {
     }
     let mutex = random.id(state.mutexes.len());
     let semaphore = random.id(state.semaphores.len());
-    let owned = state.mutexes.iter().position(|m| m.owner.is_some() && m.owner == state.running);
+    let owned = owned_by_running(state);
     let idle = state.running.is_none() && !random.one_in(10);
     match if idle { 60 + random.below(40) } else { random.below(100) } {
         0..=24 => Step::Lock(mutex, random.time()),
         25..=36 if random.one_in(2) => Step::Unlock(owned.map_or(mutex, |m| m as u32)),
         25..=36 => Step::Unlock(mutex),
         37..=43 => Step::Pend(semaphore, random.time()),
-        44..=48 => Step::Sleep(sleep_time(random, state, owned.is_none())),
+        44..=48 => Step::Sleep(sleep_time(random, state)),
         49..=53 => Step::Yield,
         54..=55 if state.hold > 0 && !random.one_in(3) => Step::Free,
         54..=55 => Step::Hold,
@@ -93,17 +100,91 @@ pub fn step(random: &mut Random, state: &State) -> Step {
     }
 }
 
-/// A time to sleep. Few tasks, and none that owns a mutex, sleep till long after the
-/// script's end, so that long scripts stay alive.
-fn sleep_time(random: &mut Random, state: &State, owns_none: bool) -> u32 {
-    let is_long = |t: u32| (1000..=LONGEST).contains(&t);
-    let asleep = |task: &&Task| match task.wait {
-        Some(Wait { object: Object::Time, left: Some(t) }) => is_long(t),
+/// Shall the next step be one of set-up? Mostly where set-up isn't over.
+fn is_for_set_up(random: &mut Random, state: &State) -> bool {
+    if random.one_in(50) {
+        state.started
+    } else {
+        !state.started
+    }
+}
+
+fn owned_by_running(state: &State) -> Option<usize> {
+    state.mutexes.iter().position(|m| m.owner.is_some() && m.owner == state.running)
+}
+
+/// A queue made or used; a word looked at where nobody runs.
+fn queue_step(random: &mut Random, state: &State) -> Step {
+    if is_for_set_up(random, state) {
+        return new_queue(random, state);
+    }
+    if random.one_in(10) || state.running.is_none() && !random.one_in(10) {
+        return Step::Word(random.id(state.tasks.len()), random.id(WORDS));
+    }
+    on_queue(random, state)
+}
+
+/// A queue, mostly of few messages, so that it is often empty or full.
+fn new_queue(random: &mut Random, state: &State) -> Step {
+    let width = if random.one_in(20) { random.odd() } else { 1 << random.below(4) };
+    let depth = match random.below(20) {
+        0 => random.odd(),
+        1..=3 => 1 + random.below(64) as u32,
+        _ => 1 + random.below(3) as u32,
+    };
+    let owner = if random.one_in(2) { Some(random.id(state.tasks.len())) } else { None };
+    Step::Queue(width, depth, owner)
+}
+
+/// A send or a receive, mostly one that the running task may make.
+fn on_queue(random: &mut Random, state: &State) -> Step {
+    let (any, time) = (random.id(state.queues.len()), queue_time(random, state));
+    if random.one_in(2) {
+        let right = state.queues.get(any as usize).filter(|_| !random.one_in(20));
+        let width = right.map_or(1 + random.below(WORDS), |queue| queue.width);
+        return Step::Send(any, time, message(random, width));
+    }
+    let is_open = |&q: &u32| [None, state.running].contains(&state.queues[q as usize].owner);
+    let open: Vec<u32> = (0..state.queues.len() as u32).filter(is_open).collect();
+    Step::Receive(if open.is_empty() || random.one_in(10) { any } else { random.of(&open) }, time)
+}
+
+/// A message of so many words.
+pub fn message(random: &mut Random, words: usize) -> Message {
+    let words: Vec<u32> = (0..words).map(|_| random.odd()).collect();
+    Message::new(&words).unwrap()
+}
+
+/// So long that it ends after the script does.
+fn is_long(time: u32) -> bool {
+    (1000..=LONGEST).contains(&time)
+}
+
+/// May the running task wait long for what no interrupt brings: a sleep's end, or the
+/// other end of a queue? Few tasks, and none that owns a mutex, may, so that long scripts
+/// stay alive.
+fn may_wait_long(state: &State) -> bool {
+    let waits_long = |task: &&Task| match task.wait {
+        Some(Wait { object: Object::Time | Object::Room(_) | Object::Message(_), left }) => {
+            left.is_none_or(is_long)
+        }
         _ => false,
     };
-    let long_sleepers = state.tasks.iter().filter(asleep).count();
+    let long = state.tasks.iter().filter(waits_long).count();
+    owned_by_running(state).is_none() && 3 * long + 3 <= state.tasks.len()
+}
+
+fn sleep_time(random: &mut Random, state: &State) -> u32 {
     match random.time() {
-        t if is_long(t) && !(owns_none && 3 * long_sleepers + 3 <= state.tasks.len()) => 5,
+        t if is_long(t) && !may_wait_long(state) => 5,
+        t => t,
+    }
+}
+
+/// A time to wait at a queue.
+fn queue_time(random: &mut Random, state: &State) -> u32 {
+    match sleep_time(random, state) {
+        FOREVER if !may_wait_long(state) => 5,
         t => t,
     }
 }
@@ -119,8 +200,8 @@ fn damaged(random: &mut Random, good: &[u8]) -> Vec<u8> {
         3 => line.insert(at, b"\t 0+-9a\r"[random.below(8)]),
         4 => line.push(b"\t 0\r\0"[random.below(5)]),
         5 => line.extend(b"\t1"),
-        6 => line.resize(79 + random.below(4), b'0'),
-        7 => line.resize(100 + random.below(70_000), b' '),
+        6 => line.resize(LONGEST_LINE - 1 + random.below(4), b'0'),
+        7 => line.resize(LONGEST_LINE + random.below(70_000), b' '),
         8 => line[0] = line[0].to_ascii_uppercase(),
         _ => line = b"sleep\t4294967296".to_vec(),
     }
@@ -138,8 +219,12 @@ pub fn script(seed: u64, lines: usize) -> Vec<u8> {
         let mut line = good.into_bytes();
         if random.one_in(40) {
             let other = damaged(&mut random, &line);
-            // A digit less may have made an over-long time a very long sleep.
-            if !matches!(parse(&other), Some(Step::Sleep(_))) {
+            // A digit less may have made an over-long time a very long wait.
+            let time = match parse(&other) {
+                Some(Step::Sleep(t) | Step::Send(_, t, _) | Step::Receive(_, t)) => t,
+                _ => 0,
+            };
+            if !is_long(time) && time != FOREVER {
                 line = other;
             }
         }

@@ -1,13 +1,17 @@
 //! The script reader and the log writer.
 
-use crate::kernel::{Answer, State, Step};
-use crate::record::{from_record, is_sound, step, Record};
+use crate::kernel::{Answer, Message, State, Step};
+use crate::record::{is_sound, step, Kept, NONE};
 use std::io::{self, Read, Write};
 
-/// "Lines over 80 bytes without the LF ... are answered 14."
-pub const LONGEST_LINE: usize = 80;
+/// "Lines over 80 bytes without the LF ... are answered 14"; "Script lines may now
+/// have 160 bytes."
+pub const LONGEST_LINE: usize = 160;
 
-/// Reads lines byte by byte; of an over-long one only 81 bytes are kept, enough
+/// "scripts are run with a block of 4096 words"
+pub const BLOCK: usize = 4096;
+
+/// Reads lines byte by byte; of an over-long one only 161 bytes are kept, enough
 /// to know it by.
 pub struct Lines<R: Read> {
     bytes: io::Bytes<R>,
@@ -70,14 +74,40 @@ pub fn parse(line: &[u8]) -> Option<Step> {
         (b"tick", &[]) => Step::Tick,
         (b"level", &[i]) => Step::Level(i),
         (b"outcome", &[i]) => Step::Outcome(i),
+        (b"queue", &[w, d]) => Step::Queue(w, d, None),
+        (b"queue", &[w, d, owner]) => Step::Queue(w, d, Some(owner)),
+        (b"send", &[q, t, ref words @ ..]) => Step::Send(q, t, Message::new(words)?),
+        (b"receive", &[q, t]) => Step::Receive(q, t),
+        (b"word", &[i, n]) => Step::Word(i, n),
         _ => return None,
     })
 }
 
-/// The line of a step, without LF: what `parse` reads. It is the step as Rust shows
-/// it, `Lock(0, 5)`, in small letters and with tabs for the marks.
+/// The line of a step, without LF: what `parse` reads.
 pub fn text(s: Step) -> String {
-    format!("{s:?}").to_lowercase().replace(['(', ','], "\t").replace([' ', ')'], "")
+    let (name, numbers) = match s {
+        Step::Task(p) => ("task", vec![p]),
+        Step::Mutex(k) => ("mutex", vec![k]),
+        Step::Sem(count, max) => ("sem", vec![count, max]),
+        Step::Start => ("start", vec![]),
+        Step::Lock(m, t) => ("lock", vec![m, t]),
+        Step::Unlock(m) => ("unlock", vec![m]),
+        Step::Pend(s, t) => ("pend", vec![s, t]),
+        Step::Post(s) => ("post", vec![s]),
+        Step::Flush(s) => ("flush", vec![s]),
+        Step::Sleep(t) => ("sleep", vec![t]),
+        Step::Yield => ("yield", vec![]),
+        Step::Hold => ("hold", vec![]),
+        Step::Free => ("free", vec![]),
+        Step::Tick => ("tick", vec![]),
+        Step::Level(i) => ("level", vec![i]),
+        Step::Outcome(i) => ("outcome", vec![i]),
+        Step::Queue(w, d, owner) => ("queue", [w, d].into_iter().chain(owner).collect()),
+        Step::Send(q, t, message) => ("send", [&[q, t], message.words()].concat()),
+        Step::Receive(q, t) => ("receive", vec![q, t]),
+        Step::Word(i, n) => ("word", vec![i, n]),
+    };
+    numbers.into_iter().fold(name.to_string(), |line, number| format!("{line}\t{number}"))
 }
 
 /// "one line for each script line: answer, value, running task or `-`"
@@ -89,26 +119,34 @@ pub fn log_line(answer: Answer) -> String {
 /// A script line on a state: the step, or 14 with "the running one as it stands".
 pub fn line_on_state(state: &State, line: &[u8]) -> (State, Answer) {
     match parse(line) {
-        Some(s) => state.step(s),
+        Some(s) => state.step(s, BLOCK),
         None => (state.clone(), Answer { number: 14, value: 0, run: state.running }),
     }
 }
 
-/// A script line on a record, its log line written into lent memory. Gives the
-/// bytes written, 0 with the log's 8: "if the line that would report the answer,
+/// A script line on a record and a block, its log line written into lent memory. Gives
+/// the bytes written, 0 with the log's 8: "if the line that would report the answer,
 /// accepted or not, its LF included, is longer than the lent memory, the answer
 /// is 8, value 0, and the step isn't made". "where the state handed in isn't
 /// sound, [the task to run] is none, with 14, 15 and 8 alike".
-pub fn line_on_record(r: &Record, line: &[u8], memory: &mut [u8]) -> (Record, Answer, usize) {
-    let run = if is_sound(r) { from_record(r).running } else { None };
+pub fn line_on_record(
+    kept: &Kept,
+    line: &[u8],
+    block: &mut [u32],
+    memory: &mut [u8],
+) -> (Kept, Answer, usize) {
+    let running = Some(kept.record.running).filter(|&i| i != NONE).map(usize::from);
+    let run = if is_sound(kept, block.len()) { running } else { None };
+    let mut after = block.to_vec();
     let (next, answer) = match parse(line) {
-        Some(s) => step(r, s),
-        None => (r.clone(), Answer { number: 14, value: 0, run }),
+        Some(s) => step(kept, s, &mut after),
+        None => (kept.clone(), Answer { number: 14, value: 0, run }),
     };
     let line = log_line(answer);
     if line.len() > memory.len() {
-        return (r.clone(), Answer { number: 8, value: 0, run }, 0);
+        return (kept.clone(), Answer { number: 8, value: 0, run }, 0);
     }
+    block.copy_from_slice(&after);
     memory[..line.len()].copy_from_slice(line.as_bytes());
     (next, answer, line.len())
 }

@@ -47,6 +47,6 @@ unfoldable pub arrived : ℕ → Unended → List (List ℕ) → List Arrival
 arrived most s [] = finished s
 arrived most s (a ∷ rest) = arrivals most s a ++ arrived most (unendedAfter most s a) rest
 
--- a line as it is to be handed on: "Lines over 80 bytes without the LF" are over-long at a maximum of 80
+-- a line as it is to be handed on: "Lines over 80 bytes without the LF" are over-long at a maximum of 80, and so for any maximum (160 in document 02)
 unfoldable pub marked : ℕ → List ℕ → Arrival
 marked most l = cond (leb (length l) most) (Line l) Long

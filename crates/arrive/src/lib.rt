@@ -8,7 +8,7 @@ ghost use Rattle.text.specs.Place.{putBytes};
 ghost use Rattle.arrive.specs.Feed.{keptLen, lineFound, lineCarry, fed, carryAfter, lastFound, foundLine};
 
 // The longest line of a script, without its LF.
-pub const LONGEST: usize = 80;
+pub const LONGEST: usize = 160;
 
 // What was found in the bytes that arrived.
 pub enum Found {

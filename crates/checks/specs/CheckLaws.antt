@@ -16,23 +16,25 @@ use Rattle.lists.specs.Order.{ascb, tiesb, inside}
 use Rattle.lists.specs.TestLaws.{and-l, and-r, true-and, or-true, or-r, same-test}
 use Rattle.lists.specs.CountLaws.{occ-head}
 use Rattle.lists.specs.OrderLaws.{inside-true}
-use Rattle.rules.specs.Sizes.{taskPlaces, maxMutexes, maxSemaphores, maxHold, granted}
-use Rattle.rules.specs.Tables.{taskCount, mutexCount, semCount, outcomeOf, ownerOf}
+use Rattle.rules.specs.Sizes.{taskPlaces, maxMutexes, maxSemaphores, maxQueues, maxHold, granted}
+use Rattle.rules.specs.Tables.{taskCount, mutexCount, semCount, queueCount, outcomeOf, ownerOf}
 use Rattle.rules.specs.Levels.{levelIn}
-use Rattle.rules.specs.Sound.{columnsb, sizesb, rangesb, clockb, ascendingb, noneIn, runsb, holdb, urgentTop, urgentb, setUpb, tablesb, soundb}
+use Rattle.rules.specs.Sound.{columnsb, sizesb, rangesb, clockb, ownersb, ascendingb, noneIn, runsb, holdb, urgentTop, urgentb, setUpb, tablesb, soundb}
 use Rattle.rules.specs.SoundLaws.{tables-facts}
 use Rattle.task_lists.specs.TaskList.{noId, items, keyOf}
 use Rattle.walks.specs.Walk.{taskAt}
 use Rattle.walks.specs.WalkLaws.{task-in}
 use Rattle.record.specs.Record.{viewTables, view}
-use Rattle.record.specs.SoundRecord.{tidyb, levelsb, soundOf}
+use Rattle.record.specs.SoundRecord.{wordsTidyb, tidyb, levelsb, soundOf}
 use Rattle.record.specs.Reads.{ownerAt}
-use Rattle.record.specs.GoodRecord.{Typed}
-use Rattle.record.specs.TidyLaws.{tasks-fit, mutexes-fit, semaphores-fit, ready-fits, waiting-fits, running-or, unused-at}
-use Rattle.record.specs.ViewLaws.{stored-level, owner-id, unused-owner, view-tasks, view-outcomes, view-waits, view-mutexes, view-kinds, view-semaphores, view-maxima, view-outcome, view-owner}
+use Rattle.record.specs.GoodRecord.{Typed, WordsTyped}
+use Rattle.record.specs.Whole.{whole}
+use Rattle.record.specs.TidyLaws.{tasks-fit, mutexes-fit, semaphores-fit, queues-fit, ready-fits, waiting-fits, running-or, unused-at}
+use Rattle.record.specs.ViewLaws.{stored-level, owner-id, unused-owner, view-tasks, view-outcomes, view-waits, view-mutexes, view-kinds, view-semaphores, view-maxima, view-outcome, view-owner, view-queues, view-widths, view-depths, view-message-lists, view-word-lists}
 use Rattle.checks.specs.Checks.{sizesIn, unusedAt, tasksIn, objectsIn, tablesIn, waitsIn, startedIn, freeAt, atRest, setUpIn, checks}
 use Rattle.checks.specs.TidyCheckLaws.{checks-tidy, tidy-sizes, tidy-unused, tidy-waits}
 use Rattle.checks.specs.TableCheckLaws.{no-id, used-tasks, used-mutexes, priorities-same, times-same, outcomes-same, owner-read, mutexes-same, counts-same, lists-same, blocked-same}
+use Rattle.checks.specs.QueueCheckLaws.{queues-checked, owners-checked, checked-queues, words-checked, empty-same, zero-same}
 use Rattle.checks.specs.PlaceCheckLaws.{places-same, waiting-view, places-view}
 use Rattle.checks.specs.LevelCheckLaws.{ringless-ring, facts-ringless, levels-same}
 use Rattle.record.specs.declared.State.{State}  -- keep
@@ -104,70 +106,82 @@ phases false x y = refl
 -- who runs, by the test of sizes
 runner-in : (k : State) → sizesIn k ≡ true → eqb (k .running) noId or ltb (k .running) (k .tasks .n) ≡ true
 unfolding sizesIn
-runner-in k e = and-r _ _ (and-r _ _ (and-r _ _ (and-r _ _ (and-r _ _ (and-r _ _ e)))))
+runner-in k e = and-r _ _ (and-r _ _ (and-r _ _ (and-r _ _ (and-r _ _ (and-r _ _ (and-r _ _ e))))))
 
 -- a record that passes is tidy
-tidy-of : (k : State) → Typed k → checks k ≡ true → tidyb k ≡ true
+tidy-of : (k : State) (ws : List ℕ) (space : ℕ) → Typed k → checks k ws space ≡ true → (tidyb k and wordsTidyb ws (k .tasks .n)) ≡ true
 unfolding checks tablesIn
-tidy-of k T c₀ =
+tidy-of k ws space T c₀ =
     let table = and-l _ _ c₀ in
     let c₁ = and-r _ _ table in
     let c₂ = and-r _ _ c₁ in
-    checks-tidy k T (and-l _ _ table) (and-l _ _ c₁) (and-l _ _ c₂) (and-r _ _ c₂)
+    let c₃ = and-r _ _ c₂ in
+    let c₄ = and-r _ _ c₃ in
+    true-and _ _ (checks-tidy k space T (and-l _ _ table) (and-l _ _ c₁) (and-l _ _ c₂) (and-l _ _ c₃) (and-r _ _ c₄)) (and-l _ _ c₄)
 
-module _ (k : State) (T : Typed k) (tidy : tidyb k ≡ true) where
+module _ (k : State) (ws b : List ℕ) (T : Typed k) (tidy : tidyb k ≡ true) (held : wordsTidyb ws (k .tasks .n) ≡ true) where
   -- where the sizes and the clock are in range, and columns have one place for each
-  columns-true : columnsb (viewTables k) ≡ true
+  columns-true : columnsb (viewTables (whole k ws b)) ≡ true
   unfolding columnsb
   columns-true =
-      true-and _ _ (eq-eqb _ _ (view-waits k T tidy ∙ sym (view-tasks k T tidy)))
-      (true-and _ _ (eq-eqb _ _ (view-outcomes k T tidy ∙ sym (view-tasks k T tidy)))
-      (true-and _ _ (eq-eqb _ _ (view-kinds k T tidy ∙ sym (view-mutexes k T tidy))) (eq-eqb _ _ (view-maxima k T tidy ∙ sym (view-semaphores k T tidy)))))
+      true-and _ _ (eq-eqb _ _ (view-waits k ws b T tidy ∙ sym (view-tasks k ws b T tidy)))
+      (true-and _ _ (eq-eqb _ _ (view-outcomes k ws b T tidy ∙ sym (view-tasks k ws b T tidy)))
+      (true-and _ _ (eq-eqb _ _ (view-kinds k ws b T tidy ∙ sym (view-mutexes k ws b T tidy)))
+      (true-and _ _ (eq-eqb _ _ (view-maxima k ws b T tidy ∙ sym (view-semaphores k ws b T tidy)))
+      (true-and _ _ (eq-eqb _ _ (view-word-lists k ws b T tidy ∙ sym (view-tasks k ws b T tidy)))
+      (true-and _ _ (eq-eqb _ _ (view-widths k ws b T tidy ∙ sym (view-queues k ws b T tidy)))
+      (true-and _ _ (eq-eqb _ _ (view-depths k ws b T tidy ∙ sym (view-queues k ws b T tidy)))
+      (eq-eqb _ _ (view-message-lists k ws b T tidy ∙ sym (view-queues k ws b T tidy)))))))))
 
-  sizes-true : sizesb (viewTables k) ≡ true
+  sizes-true : sizesb (viewTables (whole k ws b)) ≡ true
   unfolding sizesb
   sizes-true =
-      true-and _ _ (le-leb (taskCount (viewTables k)) taskPlaces (omega (arith, view-tasks k T tidy, tasks-fit k tidy)))
-      (true-and _ _ (le-leb (mutexCount (viewTables k)) maxMutexes (omega (arith, view-mutexes k T tidy, mutexes-fit k tidy)))
-      (le-leb (semCount (viewTables k)) maxSemaphores (omega (arith, view-semaphores k T tidy, semaphores-fit k tidy))))
+      true-and _ _ (le-leb (taskCount (viewTables (whole k ws b))) taskPlaces (omega (arith, view-tasks k ws b T tidy, tasks-fit k tidy)))
+      (true-and _ _ (le-leb (mutexCount (viewTables (whole k ws b))) maxMutexes (omega (arith, view-mutexes k ws b T tidy, mutexes-fit k tidy)))
+      (true-and _ _ (le-leb (semCount (viewTables (whole k ws b))) maxSemaphores (omega (arith, view-semaphores k ws b T tidy, semaphores-fit k tidy)))
+      (le-leb (queueCount (viewTables (whole k ws b))) maxQueues (omega (arith, view-queues k ws b T tidy, queues-fit k tidy)))))
 
-  clock-true : clockb (view k) ≡ true
+  clock-true : clockb (view (whole k ws b)) ≡ true
   unfolding clockb view
   clock-true = true-and _ _ (lt-ltb _ _ (T .clock-word)) (le-leb (k .hold) maxHold (omega (arith, T .hold-byte)))
 
-  -- in set-up, no mutex is owned and every outcome is 0, at unused places anyway
-  unowned : allb maxMutexes (freeAt (k .mutexes .owner)) ≡ allb (mutexCount (viewTables k)) (λ j. not (someb (ownerOf (viewTables k) j)))
-  unowned = used-mutexes k T tidy _ _
-      (λ j h l. eq-eqb _ _ (owner-read k T tidy j l ∙ unused-owner k T tidy j h))
-      (λ j h. rw (owner-read k T tidy j (omega (arith, mutexes-fit k tidy)), view-owner k T tidy j) (no-id (ownerAt (k .mutexes) j) (owner-id k T tidy j)))
+  words-typed : WordsTyped ws
+  unfolding wordsTidyb
+  words-typed = eqb-true _ _ (and-l _ _ held)
 
-  granted-all : allb taskPlaces (unusedAt (k .tasks .outcome) 0) ≡ allb (taskCount (viewTables k)) (λ i. eqb (outcomeOf (viewTables k) i) granted)
+  -- in set-up, no mutex is owned and every outcome is 0, at unused places anyway
+  unowned : allb maxMutexes (freeAt (k .mutexes .owner)) ≡ allb (mutexCount (viewTables (whole k ws b))) (λ j. not (someb (ownerOf (viewTables (whole k ws b)) j)))
+  unowned = used-mutexes k ws b T tidy _ _
+      (λ j h l. eq-eqb _ _ (owner-read k ws b T tidy j l ∙ unused-owner k ws b T tidy j h))
+      (λ j h. rw (owner-read k ws b T tidy j (omega (arith, mutexes-fit k tidy)), view-owner k ws b T tidy j) (no-id (ownerAt (k .mutexes) j) (owner-id k ws b T tidy j)))
+
+  granted-all : allb taskPlaces (unusedAt (k .tasks .outcome) 0) ≡ allb (taskCount (viewTables (whole k ws b))) (λ i. eqb (outcomeOf (viewTables (whole k ws b)) i) granted)
   unfolding _or_
-  granted-all = used-tasks k T tidy _ _
+  granted-all = used-tasks k ws b T tidy _ _
       (λ i h l. or-r (ltb i 0) _ (eq-eqb _ _ (unused-at k tidy i h l .no-outcome)))
-      (λ i h. rw (le-ltb i 0 (omega arith), view-outcome k T tidy i h) refl)
+      (λ i h. rw (le-ltb i 0 (omega arith), view-outcome k ws b T tidy i h) refl)
 
   -- where stored levels are as defined and the list of ready tasks and the running one are in range
-  module _ (stored : levelsb k ≡ true) (listed : inside (k .tasks .n) (items (k .ready)) ≡ true) (runner : eqb (k .running) noId or ltb (k .running) (k .tasks .n) ≡ true) where
-    level-ready : (y : ℕ) → 1 ≤ occ y (items (k .ready)) → keyOf (k .tasks .level) y ≡ levelIn (viewTables k) y
-    level-ready y m = stored-level k stored y (inside-member (k .tasks .n) (items (k .ready)) listed y m)
+  module _ (stored : levelsb (whole k ws b) ≡ true) (listed : inside (k .tasks .n) (items (k .ready)) ≡ true) (runner : eqb (k .running) noId or ltb (k .running) (k .tasks .n) ≡ true) where
+    level-ready : (y : ℕ) → 1 ≤ occ y (items (k .ready)) → keyOf (k .tasks .level) y ≡ levelIn (viewTables (whole k ws b)) y
+    level-ready y m = stored-level k ws b stored y (inside-member (k .tasks .n) (items (k .ready)) listed y m)
 
-    level-running : k .running < taskPlaces → keyOf (k .tasks .level) (k .running) ≡ levelIn (viewTables k) (k .running)
+    level-running : k .running < taskPlaces → keyOf (k .tasks .level) (k .running) ≡ levelIn (viewTables (whole k ws b)) (k .running)
     level-running h = elim (or-true _ _ runner) [
       | inl e ↦ absurd (omega (arith, eqb-true (k .running) noId e))
-      | inr e ↦ stored-level k stored (k .running) (ltb-true _ _ e)
+      | inr e ↦ stored-level k ws b stored (k .running) (ltb-true _ _ e)
     ]
 
-    ascending-same : ascb (keyOf (k .tasks .level)) (items (k .ready)) ≡ ascendingb (view k)
+    ascending-same : ascb (keyOf (k .tasks .level)) (items (k .ready)) ≡ ascendingb (view (whole k ws b))
     unfolding ascendingb view
     ascending-same = asc-same-key _ _ (items (k .ready)) level-ready
 
-    started-same : startedIn (k .tasks .level) (k .ready) (k .running) (k .hold) ≡ runsb (view k) and holdb (view k) and urgentb (view k)
+    started-same : startedIn (k .tasks .level) (k .ready) (k .running) (k .hold) ≡ runsb (view (whole k ws b)) and holdb (view (whole k ws b)) and urgentb (view (whole k ws b))
     unfolding startedIn runsb holdb urgentb view
-    started-same = started-same-key (keyOf (k .tasks .level)) (levelIn (viewTables k)) (k .ready .n) (k .running) (k .hold) (k .ready .ids)
+    started-same = started-same-key (keyOf (k .tasks .level)) (levelIn (viewTables (whole k ws b))) (k .ready .n) (k .running) (k .hold) (k .ready .ids)
         (omega (arith, T .ready-length, ready-fits k tidy)) (running-or k tidy) level-running level-ready
 
-    set-up-same : atRest (k .clock) (k .hold) (k .running) (k .waiting .n) and setUpIn (k .mutexes .owner) (k .tasks .outcome) (k .ready) (k .tasks .level) ≡ setUpb (view k)
+    set-up-same : atRest (k .clock) (k .hold) (k .running) (k .waiting .n) and setUpIn (k .mutexes .owner) (k .tasks .outcome) (k .ready) (k .tasks .level) (k .queues .used) ws ≡ setUpb (view (whole k ws b))
     unfolding atRest setUpIn setUpb view viewTables
     set-up-same = rw (
       four-first (eqb (k .clock) 0) (eqb (k .hold) 0) (eqb (k .running) noId) (eqb (k .waiting .n) 0),
@@ -175,20 +189,23 @@ module _ (k : State) (T : Typed k) (tidy : tidyb k ≡ true) where
       none-items (k .waiting .n) (k .waiting .ids) (omega (arith, T .waiting-length, waiting-fits k tidy)),
       unowned,
       granted-all,
-      ties-same-key (keyOf (k .tasks .level)) (levelIn (viewTables k)) (items (k .ready)) level-ready,
+      empty-same k ws b T tidy words-typed,
+      zero-same k ws b T tidy words-typed held,
+      ties-same-key (keyOf (k .tasks .level)) (levelIn (viewTables (whole k ws b))) (items (k .ready)) level-ready,
     )
 
-    phase-same : cond (eqb (k .started) 0) (atRest (k .clock) (k .hold) (k .running) (k .waiting .n) and setUpIn (k .mutexes .owner) (k .tasks .outcome) (k .ready) (k .tasks .level)) (startedIn (k .tasks .level) (k .ready) (k .running) (k .hold)) ≡ cond (view k .started) (runsb (view k) and holdb (view k) and urgentb (view k)) (setUpb (view k))
+    phase-same : cond (eqb (k .started) 0) (atRest (k .clock) (k .hold) (k .running) (k .waiting .n) and setUpIn (k .mutexes .owner) (k .tasks .outcome) (k .ready) (k .tasks .level) (k .queues .used) ws) (startedIn (k .tasks .level) (k .ready) (k .running) (k .hold)) ≡ cond (view (whole k ws b) .started) (runsb (view (whole k ws b)) and holdb (view (whole k ws b)) and urgentb (view (whole k ws b))) (setUpb (view (whole k ws b)))
     unfolding view
     phase-same = rw (set-up-same, started-same) (phases (eqb (k .started) 0) _ _)
 
   -- what a sound state says of the view, from the code's test, and back
-  checked-sound : checks k ≡ true → levelsb k and soundb (view k) ≡ true
-  unfolding checks tablesIn tasksIn objectsIn waitsIn soundb tablesb rangesb view
+  checked-sound : checks k ws (length b) ≡ true → levelsb (whole k ws b) and soundb (view (whole k ws b)) ≡ true
+  unfolding checks tablesIn tasksIn objectsIn waitsIn soundb tablesb rangesb ownersb view
   checked-sound c₀ =
       let table = and-l _ _ c₀ in
       let c₁ = and-r _ _ table in
       let c₂ = and-r _ _ c₁ in
+      let c₃ = and-r _ _ c₂ in
       let c₄ = and-r _ _ c₀ in
       let c₅ = and-r _ _ c₄ in
       let c₆ = and-r _ _ c₅ in
@@ -197,30 +214,34 @@ module _ (k : State) (T : Typed k) (tidy : tidyb k ≡ true) where
       let task = and-r _ _ (and-l _ _ c₁) in
       let times = and-r _ _ (and-r _ _ task) in
       let object = and-l _ _ c₂ in
-      let mutex = sym (mutexes-same k T tidy) ∙ and-l _ _ object in
-      let lists = sym (lists-same k T tidy) ∙ and-r _ _ c₂ in
+      let mutex = sym (mutexes-same k ws b T tidy) ∙ and-l _ _ object in
+      let queue = and-l _ _ c₃ in
+      let lists = sym (lists-same k ws b T tidy) ∙ and-r _ _ (and-r _ _ c₃) in
       let listed = and-l _ _ lists in
-      let spots = sym (places-same k T tidy listed (and-r _ _ lists)) ∙ and-l _ _ c₄ in
+      let spots = sym (places-same k ws b T tidy listed (and-r _ _ lists)) ∙ and-l _ _ c₄ in
       let wait = and-l _ _ c₅ in
+      let blocked = sym (blocked-same k ws b T tidy words-typed) ∙ true-and _ _ (and-l _ _ wait) (and-l _ _ (and-r _ _ wait)) in
       let tables =
       true-and _ _ columns-true
       (true-and _ _ sizes-true
-      (true-and _ _ (true-and _ _ (sym (priorities-same k T tidy) ∙ and-l _ _ task) (and-l _ _ mutex))
-      (true-and _ _ (waiting-view k T tidy ∙ true-and _ _ (and-r _ _ lists) (and-l _ _ spots))
-      (true-and _ _ (sym (blocked-same k T tidy) ∙ and-l _ _ wait)
-      (true-and _ _ (sym (times-same k T tidy) ∙ and-l _ _ times)
-      (true-and _ _ (and-r _ _ mutex)
-      (true-and _ _ (ringless-ring k T tidy (and-r _ _ wait))
-      (true-and _ _ (sym (counts-same k T tidy) ∙ and-r _ _ object) (sym (outcomes-same k T tidy) ∙ and-r _ _ times))))))))) in
-      let stored = sym (levels-same k T tidy (tables-facts (viewTables k) tables)) ∙ and-l _ _ c₆ in
+      (true-and _ _ (true-and _ _ (sym (priorities-same k ws b T tidy) ∙ and-l _ _ task) (and-l _ _ mutex))
+      (true-and _ _ (waiting-view k ws b T tidy ∙ true-and _ _ (and-r _ _ lists) (and-l _ _ spots))
+      (true-and _ _ (and-l _ _ blocked)
+      (true-and _ _ (sym (times-same k ws b T tidy) ∙ and-l _ _ times)
+      (true-and _ _ (true-and _ _ (and-r _ _ mutex) (owners-checked k ws b T tidy queue))
+      (true-and _ _ (ringless-ring k ws b T tidy (and-r _ _ (and-r _ _ wait)))
+      (true-and _ _ (sym (counts-same k ws b T tidy) ∙ and-r _ _ object)
+      (true-and _ _ (sym (outcomes-same k ws b T tidy) ∙ and-r _ _ times)
+      (true-and _ _ (queues-checked k ws b T tidy queue) (true-and _ _ (words-checked k ws b T tidy words-typed) (and-r _ _ blocked)))))))))))) in
+      let stored = sym (levels-same k ws b T tidy (tables-facts (viewTables (whole k ws b)) tables)) ∙ and-l _ _ c₆ in
       true-and _ _ stored
       (true-and _ _ tables
       (true-and _ _ clock-true
-      (true-and _ _ (places-view k T tidy ∙ true-and _ _ listed (true-and _ _ runner (and-r _ _ spots)))
+      (true-and _ _ (places-view k ws b T tidy ∙ true-and _ _ listed (true-and _ _ runner (and-r _ _ spots)))
       (true-and _ _ (sym (ascending-same stored listed runner) ∙ and-l _ _ c₇) (sym (phase-same stored listed runner) ∙ and-r _ _ c₇)))))
 
-  sound-checked : levelsb k and soundb (view k) ≡ true → checks k ≡ true
-  unfolding checks tablesIn tasksIn objectsIn waitsIn soundb tablesb rangesb view
+  sound-checked : levelsb (whole k ws b) and soundb (view (whole k ws b)) ≡ true → checks k ws (length b) ≡ true
+  unfolding checks tablesIn tasksIn objectsIn waitsIn soundb tablesb rangesb ownersb view
   sound-checked e =
       let s₀ = and-r _ _ e in
       let s₁ = and-r _ _ (and-r _ _ s₀) in
@@ -231,25 +252,33 @@ module _ (k : State) (T : Typed k) (tidy : tidyb k ≡ true) where
       let t₅ = and-r _ _ t₄ in
       let t₆ = and-r _ _ t₅ in
       let t₈ = and-r _ _ (and-r _ _ t₆) in
-      let F = tables-facts (viewTables k) (and-l _ _ s₀) in
+      let t₉ = and-r _ _ t₈ in
+      let t₁₀ = and-r _ _ t₉ in
+      let F = tables-facts (viewTables (whole k ws b)) (and-l _ _ s₀) in
       let stored = and-l _ _ e in
-      let waits = sym (waiting-view k T tidy) ∙ and-l _ _ t₃ in
-      let spots = sym (places-view k T tidy) ∙ and-l _ _ s₁ in
+      let waits = sym (waiting-view k ws b T tidy) ∙ and-l _ _ t₃ in
+      let spots = sym (places-view k ws b T tidy) ∙ and-l _ _ s₁ in
       let listed = and-l _ _ spots in
       let runner = and-l _ _ (and-r _ _ spots) in
+      let owners = and-l _ _ t₆ in
+      let blocked = blocked-same k ws b T tidy words-typed ∙ true-and _ _ (and-l _ _ t₄) (and-r _ _ (and-r _ _ t₁₀)) in
       true-and _ _ (true-and _ _ (tidy-sizes k tidy runner)
       (true-and _ _ (true-and _ _ (tidy-unused k tidy)
-      (true-and _ _ (priorities-same k T tidy ∙ and-l _ _ (and-l _ _ t₂))
+      (true-and _ _ (priorities-same k ws b T tidy ∙ and-l _ _ (and-l _ _ t₂))
       (true-and _ _ (tidy-waits k tidy)
-      (true-and _ _ (times-same k T tidy ∙ and-l _ _ t₅) (outcomes-same k T tidy ∙ and-r _ _ t₈)))))
-      (true-and _ _ (true-and _ _ (mutexes-same k T tidy ∙ true-and _ _ (and-r _ _ (and-l _ _ t₂)) (and-l _ _ t₆)) (counts-same k T tidy ∙ and-l _ _ t₈))
-      (lists-same k T tidy ∙ true-and _ _ listed (and-l _ _ waits)))))
-      (true-and _ _ (places-same k T tidy listed (and-l _ _ waits) ∙ true-and _ _ (and-r _ _ waits) (and-r _ _ (and-r _ _ spots)))
-      (true-and _ _ (true-and _ _ (blocked-same k T tidy ∙ and-l _ _ t₄) (facts-ringless k T tidy F))
-      (true-and _ _ (levels-same k T tidy F ∙ stored)
+      (true-and _ _ (times-same k ws b T tidy ∙ and-l _ _ t₅) (outcomes-same k ws b T tidy ∙ and-l _ _ t₉)))))
+      (true-and _ _ (true-and _ _ (mutexes-same k ws b T tidy ∙ true-and _ _ (and-r _ _ (and-l _ _ t₂)) (and-l _ _ owners)) (counts-same k ws b T tidy ∙ and-l _ _ t₈))
+      (true-and _ _ (checked-queues k ws b T tidy (and-l _ _ t₁₀) (and-r _ _ owners))
+      (true-and _ _ held (lists-same k ws b T tidy ∙ true-and _ _ listed (and-l _ _ waits)))))))
+      (true-and _ _ (places-same k ws b T tidy listed (and-l _ _ waits) ∙ true-and _ _ (and-r _ _ waits) (and-r _ _ (and-r _ _ spots)))
+      (true-and _ _ (true-and _ _ (and-l _ _ blocked) (true-and _ _ (and-r _ _ blocked) (facts-ringless k ws b T tidy F)))
+      (true-and _ _ (levels-same k ws b T tidy F ∙ stored)
       (true-and _ _ (ascending-same stored listed runner ∙ and-l _ _ s₂) (phase-same stored listed runner ∙ and-r _ _ s₂)))))
 
--- the code's own test of a record is "sound state"
-pub checks-sound : (k : State) → Typed k → checks k ≡ soundOf k
+-- the code's own test of a record is "sound state", for every block of that length
+pub checks-sound : (k : State) (ws b : List ℕ) → Typed k → checks k ws (length b) ≡ soundOf (whole k ws b)
 unfolding soundOf
-checks-sound k T = same-test _ _ (λ c. (let t = tidy-of k T c in true-and _ _ t (checked-sound k T t c))) (λ s. sound-checked k T (and-l _ _ s) (and-r _ _ s))
+checks-sound k ws b T = same-test _ _
+    (λ c. (let t = tidy-of k ws (length b) T c in
+    true-and _ _ (and-l _ _ t) (true-and _ _ (and-r _ _ t) (checked-sound k ws b T (and-l _ _ t) (and-r _ _ t) c))))
+    (λ s. sound-checked k ws b T (and-l _ _ s) (and-l _ _ (and-r _ _ s)) (and-r _ _ (and-r _ _ s)))

@@ -2,29 +2,33 @@
 -- A test of a table is made at every place; unused places, which hold what the fresh record holds, pass too.
 use mathlib.Core.List.{List}
 use mathlib.Core.Bool.{Bool, true, cond, not}
-use Prim.Native.Nat.{ℕ, _%_}
+use Prim.Native.Nat.{ℕ, _+_, _*_, _%_}
 use lib.Dec.{ltb, leb, eqb}
 use lib.ListN.{getD, replicate}
 use Rattle.lists.specs.Test.{_and_, _or_, allb}
 use Rattle.lists.specs.Order.{ascb, tiesb}
 use Rattle.lists.specs.Table.{filled}
 use Rattle.chains.specs.Chain.{endsb}
-use Rattle.rules.specs.Sizes.{taskPlaces, maxMutexes, maxSemaphores, levels, kinds, maxTicks, granted, pending, timedOut, flushed, onMutex, onSemaphore, onTime}
+use Rattle.rules.specs.Sizes.{taskPlaces, maxMutexes, maxSemaphores, maxQueues, heldWords, levels, kinds, maxTicks, granted, pending, timedOut, flushed, onMutex, onSemaphore, onTime, onSend, onReceive}
+use Rattle.rules.specs.Sound.{isWidth, isDepth}
+use Rattle.rings.specs.Starts.{startIn}
 use Rattle.rules.specs.Levels.{next}
 use Rattle.task_lists.specs.TaskList.{noId, items, keyOf, counted, idFitsAt}
 use Rattle.walks.specs.Walk.{taskAt, nextIn, lentBy}
 use Rattle.record.specs.Record.{ticksLeft}
 use Rattle.record.specs.Reads.{ledBy, heirAt, firstId}
+use Rattle.record.specs.SoundRecord.{isObjectWait, wordsTidyb}
 use Rattle.record.specs.declared.State.{State}  -- keep
 use Rattle.record.specs.declared.Tasks.{Tasks}  -- keep
 use Rattle.record.specs.declared.Mutexes.{Mutexes}  -- keep
 use Rattle.record.specs.declared.Semaphores.{Semaphores}  -- keep
+use Rattle.record.specs.declared.Queues.{Queues}  -- keep
 use Rattle.task_lists.specs.declared.TaskList.{TaskList}  -- keep
 
 -- how many there are of each, and who runs
 unfoldable pub sizesIn : State → Bool
 sizesIn k = leb (k .tasks .n) taskPlaces and leb (k .mutexes .n) maxMutexes and leb (k .semaphores .n) maxSemaphores
-    and leb (k .ready .n) taskPlaces and leb (k .waiting .n) taskPlaces and leb (k .started) 1
+    and leb (k .queues .n) maxQueues and leb (k .ready .n) taskPlaces and leb (k .waiting .n) taskPlaces and leb (k .started) 1
     and (eqb (k .running) noId or ltb (k .running) (k .tasks .n))
 
 -- a place behind the last of n holds 0
@@ -54,7 +58,7 @@ othersUnused t used = allb taskPlaces (unusedBy (t .level) used) and allb taskPl
 
 -- a task's wait: an object only for a wait on one, a time only for a wait
 unfoldable pub waitFits : ℕ → ℕ → ℕ → Bool
-waitFits kind object timed = leb kind onTime and (eqb object 0 or eqb kind onMutex or eqb kind onSemaphore) and leb timed 1 and (eqb timed 0 or not (eqb kind 0))
+waitFits kind object timed = leb kind onReceive and (eqb object 0 or isObjectWait kind) and leb timed 1 and (eqb timed 0 or not (eqb kind 0))
 
 abbrev pub waitFitsAt : List ℕ → List ℕ → List ℕ → ℕ → Bool
 waitFitsAt waits objects timed i = waitFits (getD waits i 0) (getD objects i 0) (getD timed i 0)
@@ -96,6 +100,21 @@ semFitsAt counts maxima n j = semFits (ltb j n) (getD counts j 0) (getD maxima j
 unfoldable pub objectsIn : Mutexes → Semaphores → ℕ → Bool
 objectsIn m c tasks = allb maxMutexes (mutexFitsAt (m .kind) (m .owner) (m .n) tasks) and allb maxSemaphores (semFitsAt (c .count) (c .maximum) (c .n))
 
+-- a queue: its width and depth in range, its owner one of the tasks, its oldest message in its ring, and no more messages than there is room for; an
+-- unused one is as in the fresh record
+unfoldable pub queueFits : Bool → ℕ → ℕ → ℕ → ℕ → ℕ → ℕ → Bool
+queueFits used tasks width depth owner oldest count =
+    cond used
+    (isWidth width and isDepth depth and (eqb owner noId or ltb owner tasks) and ltb oldest depth and leb count depth)
+    (eqb width 0 and eqb depth 0 and eqb owner noId and eqb oldest 0 and eqb count 0)
+
+abbrev pub queueFitsAt : Queues → ℕ → ℕ → Bool
+queueFitsAt x tasks q = queueFits (ltb q (x .n)) tasks (getD (x .width) q 0) (getD (x .depth) q 0) (getD (x .owner) q 0) (getD (x .oldest) q 0) (getD (x .used) q 0)
+
+-- "15 for a queue not so placed in the block": the block has a place for all of them
+unfoldable pub queuesIn : Queues → ℕ → ℕ → Bool
+queuesIn x tasks space = allb maxQueues (queueFitsAt x tasks) and leb (startIn (x .width) (x .depth) (x .n)) space
+
 -- the two lists
 unfoldable pub listsIn : TaskList → TaskList → ℕ → Bool
 listsIn ready waiting tasks = allb taskPlaces (idFitsAt (ready .ids) (ready .n) tasks) and allb taskPlaces (idFitsAt (waiting .ids) (waiting .n) tasks)
@@ -130,6 +149,19 @@ emptyAt counts j = cond (eqb (getD counts j 0) 0) 1 0
 abbrev pub atObject : List ℕ → List ℕ → ℕ → ℕ
 atObject objects table i = getD table (getD objects i 0 % maxSemaphores) 0
 
+-- the words of task i past the first w are 0
+abbrev pub pastAt : List ℕ → ℕ → ℕ → Bool
+pastAt words i w = allb heldWords (λ n. ltb n w or eqb (getD words (heldWords * i + n) 0) 0)
+
+-- who waits at a queue: one to send meets a full one, and its words past the width are 0; one to receive meets an empty one, which has no owner or is its own
+unfoldable pub queueWaitFits : Queues → List ℕ → ℕ → ℕ → ℕ → Bool
+queueWaitFits x words i kind object =
+    cond (eqb kind onSend) (ltb object (x .n) and eqb (getD (x .used) object 0) (getD (x .depth) object 0) and pastAt words i (getD (x .width) object 0))
+    (cond (eqb kind onReceive) (ltb object (x .n) and eqb (getD (x .used) object 0) 0 and (eqb (getD (x .owner) object 0) noId or eqb (getD (x .owner) object 0) i)) true)
+
+unfoldable pub queueWaitsIn : List ℕ → List ℕ → Queues → List ℕ → Bool
+queueWaitsIn waits objects x words = allb taskPlaces (λ i. queueWaitFits x words i (getD waits i 0) (getD objects i 0))
+
 -- each task in one place: it stands in the order of waits as often as it waits, and in the two lists together once, or, where it runs, never
 unfoldable pub waitsOnce : ℕ → ℕ
 waitsOnce kind = cond (eqb kind 0) 0 1
@@ -149,22 +181,22 @@ placesIn kinds ready waiting n running =
     allb taskPlaces (placeAt kinds waits (counted waits (items ready)) n running)
 
 -- no ring: the chain of every owner ends
-unfoldable pub ringless : List ℕ → List ℕ → Mutexes → ℕ → Bool
-ringless waits objects m n =
-    let next = filled taskPlaces (λ i. ledBy (m .owner) (getD waits i 0) (getD objects i 0)) in
-    allb maxMutexes (λ j. endsb n (nextIn next) (taskAt (getD (m .owner) j 0)))
+unfoldable pub ringless : List ℕ → List ℕ → Mutexes → Queues → ℕ → Bool
+ringless waits objects m x n =
+    let next = filled taskPlaces (λ i. ledBy (m .owner) (x .owner) (getD waits i 0) (getD objects i 0)) in
+    allb maxMutexes (λ j. endsb n (nextIn next) (taskAt (getD (m .owner) j 0))) and allb maxQueues (λ j. endsb n (nextIn next) (taskAt (getD (x .owner) j 0)))
 
 -- waits are for what isn't available, and close no ring
-unfoldable pub waitsIn : List ℕ → List ℕ → Mutexes → Semaphores → ℕ → Bool
-waitsIn waits objects m c n = blockedIn waits objects m c and ringless waits objects m n
+unfoldable pub waitsIn : List ℕ → List ℕ → Mutexes → Semaphores → Queues → List ℕ → ℕ → Bool
+waitsIn waits objects m c x words n = blockedIn waits objects m c and queueWaitsIn waits objects x words and ringless waits objects m x n
 
 -- stored levels: each is the least of the own priority and of the stored levels that are lent to the task
 abbrev pub sameAt : List ℕ → List ℕ → ℕ → Bool
 sameAt a b i = eqb (getD a i 0) (getD b i 0)
 
-unfoldable pub levelsIn : List ℕ → List ℕ → List ℕ → List ℕ → Mutexes → Bool
-levelsIn own level waits objects m =
-    let lends = filled taskPlaces (λ i. ledBy (filled maxMutexes (heirAt m)) (getD waits i 0) (getD objects i 0)) in
+unfoldable pub levelsIn : List ℕ → List ℕ → List ℕ → List ℕ → Mutexes → Queues → Bool
+levelsIn own level waits objects m x =
+    let lends = filled taskPlaces (λ i. ledBy (filled maxMutexes (heirAt m)) (x .owner) (getD waits i 0) (getD objects i 0)) in
     allb taskPlaces (sameAt level (lentBy own lends level taskPlaces))
 
 -- after start: who runs, and at least as urgent as the first ready one
@@ -172,25 +204,31 @@ unfoldable pub startedIn : List ℕ → TaskList → ℕ → ℕ → Bool
 startedIn levels ready running hold = cond (eqb running noId) (eqb (ready .n) 0 and eqb hold 0)
     (cond (eqb hold 0) (cond (eqb (ready .n) 0) true (leb (keyOf levels running) (keyOf levels (firstId ready)))) true)
 
--- in set-up: the clock and scheduling stand, and nobody runs or waits; nothing is owned, outcomes are 0, and equal levels stand by id
+-- in set-up: the clock and scheduling stand, and nobody runs or waits; no mutex is owned, outcomes are 0, queues are empty, held words 0, and equal levels
+-- stand by id
 unfoldable pub atRest : ℕ → ℕ → ℕ → ℕ → Bool
 atRest clock hold running waiting = eqb clock 0 and eqb hold 0 and eqb running noId and eqb waiting 0
 
 abbrev pub freeAt : List ℕ → ℕ → Bool
 freeAt owners j = eqb (getD owners j 0) noId
 
-unfoldable pub setUpIn : List ℕ → List ℕ → TaskList → List ℕ → Bool
-setUpIn owners outcomes ready levels = allb maxMutexes (freeAt owners) and allb taskPlaces (unusedAt outcomes 0) and tiesb (keyOf levels) (items ready)
+unfoldable pub setUpIn : List ℕ → List ℕ → TaskList → List ℕ → List ℕ → List ℕ → Bool
+setUpIn owners outcomes ready levels used words =
+    allb maxMutexes (freeAt owners) and allb taskPlaces (unusedAt outcomes 0) and allb maxQueues (unusedAt used 0) and allb (heldWords * taskPlaces) (unusedAt words 0)
+    and tiesb (keyOf levels) (items ready)
 
 -- the tables and lists, each by itself
-unfoldable pub tablesIn : State → Bool
-tablesIn k = sizesIn k and tasksIn (k .tasks) (k .clock) and objectsIn (k .mutexes) (k .semaphores) (k .tasks .n) and listsIn (k .ready) (k .waiting) (k .tasks .n)
+unfoldable pub tablesIn : State → List ℕ → ℕ → Bool
+tablesIn k words space = sizesIn k and tasksIn (k .tasks) (k .clock) and objectsIn (k .mutexes) (k .semaphores) (k .tasks .n) and queuesIn (k .queues) (k .tasks .n) space
+    and wordsTidyb words (k .tasks .n) and listsIn (k .ready) (k .waiting) (k .tasks .n)
 
 -- all phrases, in an order in which each can rely on those before it
-unfoldable pub checks : State → Bool
-checks k =
+unfoldable pub checks : State → List ℕ → ℕ → Bool
+checks k words space =
     let t = k .tasks in
-    tablesIn k and placesIn (t .wait) (k .ready) (k .waiting) (t .n) (k .running) and waitsIn (t .wait) (t .object) (k .mutexes) (k .semaphores) (t .n)
-    and levelsIn (t .priority) (t .level) (t .wait) (t .object) (k .mutexes)
+    tablesIn k words space and placesIn (t .wait) (k .ready) (k .waiting) (t .n) (k .running)
+    and waitsIn (t .wait) (t .object) (k .mutexes) (k .semaphores) (k .queues) words (t .n)
+    and levelsIn (t .priority) (t .level) (t .wait) (t .object) (k .mutexes) (k .queues)
     and ascb (keyOf (t .level)) (items (k .ready)) and cond (eqb (k .started) 0)
-    (atRest (k .clock) (k .hold) (k .running) (k .waiting .n) and setUpIn (k .mutexes .owner) (t .outcome) (k .ready) (t .level)) (startedIn (t .level) (k .ready) (k .running) (k .hold))
+    (atRest (k .clock) (k .hold) (k .running) (k .waiting .n) and setUpIn (k .mutexes .owner) (t .outcome) (k .ready) (t .level) (k .queues .used) words)
+    (startedIn (t .level) (k .ready) (k .running) (k .hold))

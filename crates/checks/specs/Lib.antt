@@ -3,6 +3,7 @@ pub mod Checks
 pub mod TestedLaws
 pub mod TidyCheckLaws
 pub mod TableCheckLaws
+pub mod QueueCheckLaws
 pub mod PlaceCheckLaws
 pub mod LevelCheckLaws
 pub mod CheckLaws

@@ -16,13 +16,14 @@ use Rattle.lists.specs.Order.{inside}
 use Rattle.lists.specs.TestLaws.{by-test, and-l, true-and, same-test, all-and}
 use Rattle.lists.specs.CountLaws.{eqn-at, eqn-other}
 use Rattle.lists.specs.OrderLaws.{inside-true}
-use Rattle.rules.specs.Sizes.{taskPlaces, onTime}
+use Rattle.rules.specs.Sizes.{taskPlaces, onReceive}
 use Rattle.rules.specs.Tables.{taskCount, waitOf}
 use Rattle.rules.specs.Sound.{waitCount, waitingb, placesb}
 use Rattle.task_lists.specs.TaskList.{noId, items, keyOf, counted}
 use Rattle.task_lists.specs.TaskListLaws.{length-counted, getD-counted}
 use Rattle.walks.specs.Walk.{taskAt}
 use Rattle.walks.specs.WalkLaws.{task-in}
+use Rattle.record.specs.Whole.{whole}
 use Rattle.record.specs.Record.{awaitedBy, waitWith, leftIn, waitIn, waitAt, viewTables, view}
 use Rattle.record.specs.SoundRecord.{tidyb}
 use Rattle.record.specs.GoodRecord.{Typed}
@@ -33,13 +34,15 @@ use Rattle.checks.specs.TableCheckLaws.{used-tasks}
 use Rattle.record.specs.declared.State.{State}  -- keep
 
 -- how often a task waits, by the places of its wait
-count-wait : (kind object : ℕ) (left : Option ℕ) → kind ≤ onTime → waitsOnce kind ≡ waitCount (waitIn kind object left)
+count-wait : (kind object : ℕ) (left : Option ℕ) → kind ≤ onReceive → waitsOnce kind ≡ waitCount (waitIn kind object left)
 unfolding waitsOnce waitWith awaitedBy waitCount
 count-wait zero object left h = refl
 count-wait (suc zero) object left h = refl
 count-wait (suc (suc zero)) object left h = refl
 count-wait (suc (suc (suc zero))) object left h = refl
-count-wait (suc (suc (suc (suc kind)))) object left h = absurd (omega arith)
+count-wait (suc (suc (suc (suc zero)))) object left h = refl
+count-wait (suc (suc (suc (suc (suc zero))))) object left h = refl
+count-wait (suc (suc (suc (suc (suc (suc kind)))))) object left h = absurd (omega arith)
 
 -- who runs is one of the tasks, by its id
 inside-id : (r n : ℕ) → (r < taskPlaces) ⊎ (r ≡ noId) → eqb r noId or ltb r n ≡ inside n (opt (taskAt r))
@@ -88,7 +91,7 @@ waitsOf k = counted (replicate taskPlaces 0) (items (k .waiting))
 abbrev allOf : State → List ℕ
 allOf k = counted (waitsOf k) (items (k .ready))
 
-module _ (k : State) (T : Typed k) (tidy : tidyb k ≡ true) where
+module _ (k : State) (ws b : List ℕ) (T : Typed k) (tidy : tidyb k ≡ true) where
   waits-at : (i : ℕ) → i < taskPlaces → keyOf (waitsOf k) i ≡ occ i (items (k .waiting))
   waits-at i l =
       let z : keyOf (replicate taskPlaces 0) i ≡ 0 = getD-replicate taskPlaces i 0 0 l in
@@ -110,7 +113,7 @@ module _ (k : State) (T : Typed k) (tidy : tidyb k ≡ true) where
 
   -- one task's place
   abbrev pub waitsRight : ℕ → Bool
-  waitsRight i = eqb (occ i (items (k .waiting))) (waitCount (waitOf (viewTables k) i))
+  waitsRight i = eqb (occ i (items (k .waiting))) (waitCount (waitOf (viewTables (whole k ws b)) i))
 
   abbrev pub standsRight : ℕ → Bool
   standsRight i = eqb (occ i (items (k .ready)) + (occ i (items (k .waiting)) + occ i (opt (taskAt (k .running))))) 1
@@ -122,7 +125,7 @@ module _ (k : State) (T : Typed k) (tidy : tidyb k ≡ true) where
       rw (
         waits-at i l,
         all-at i l,
-        view-wait k T tidy i h,
+        view-wait k ws b T tidy i h,
         count-wait (keyOf (k .tasks .wait) i) (keyOf (k .tasks .object) i) (leftIn (getD (k .tasks .timed) i 0) (getD (k .tasks .due) i 0) (k .clock)) (wait-kind k tidy i h),
         stands-one (k .tasks .n) (k .running) i (occ i (items (k .waiting))) (occ i (items (k .ready))) h,
         occ-id (k .running) i l (running-or k tidy),
@@ -138,16 +141,16 @@ module _ (k : State) (T : Typed k) (tidy : tidyb k ≡ true) where
         (rw (unused-at k tidy i h l .no-wait) (eq-eqb (keyOf (waitsOf k) i) 0 (waits-at i l ∙ w)))
         (rw (stands-none (k .tasks .n) (k .running) i h) (eq-eqb (keyOf (allOf k) i) 0 (omega (arith, all-at i l))))
 
-    pub places-same : placesIn (k .tasks .wait) (k .ready) (k .waiting) (k .tasks .n) (k .running) ≡ allb (taskCount (viewTables k)) waitsRight and allb (taskCount (viewTables k)) standsRight
+    pub places-same : placesIn (k .tasks .wait) (k .ready) (k .waiting) (k .tasks .n) (k .running) ≡ allb (taskCount (viewTables (whole k ws b))) waitsRight and allb (taskCount (viewTables (whole k ws b))) standsRight
     unfolding placesIn
-    places-same = used-tasks k T tidy _ (λ i. waitsRight i and standsRight i) place-unused place-used ∙ all-and (taskCount (viewTables k)) waitsRight standsRight
+    places-same = used-tasks k ws b T tidy _ (λ i. waitsRight i and standsRight i) place-unused place-used ∙ all-and (taskCount (viewTables (whole k ws b))) waitsRight standsRight
 
   -- the rules' tests of the view, in the record's terms
-  pub waiting-view : waitingb (viewTables k) ≡ inside (k .tasks .n) (items (k .waiting)) and allb (taskCount (viewTables k)) waitsRight
+  pub waiting-view : waitingb (viewTables (whole k ws b)) ≡ inside (k .tasks .n) (items (k .waiting)) and allb (taskCount (viewTables (whole k ws b))) waitsRight
   unfolding waitingb viewTables
-  waiting-view = ap (λ (n : ℕ). inside n (items (k .waiting)) and allb (taskCount (viewTables k)) waitsRight) (view-tasks k T tidy)
+  waiting-view = ap (λ (n : ℕ). inside n (items (k .waiting)) and allb (taskCount (viewTables (whole k ws b))) waitsRight) (view-tasks k ws b T tidy)
 
-  pub places-view : placesb (view k) ≡ inside (k .tasks .n) (items (k .ready)) and (eqb (k .running) noId or ltb (k .running) (k .tasks .n)) and allb (taskCount (viewTables k)) standsRight
+  pub places-view : placesb (view (whole k ws b)) ≡ inside (k .tasks .n) (items (k .ready)) and (eqb (k .running) noId or ltb (k .running) (k .tasks .n)) and allb (taskCount (viewTables (whole k ws b))) standsRight
   unfolding placesb view viewTables
   places-view = rw (inside-id (k .running) (k .tasks .n) (running-or k tidy))
-      (ap (λ (n : ℕ). inside n (items (k .ready)) and inside n (opt (taskAt (k .running))) and allb (taskCount (viewTables k)) standsRight) (view-tasks k T tidy))
+      (ap (λ (n : ℕ). inside n (items (k .ready)) and inside n (opt (taskAt (k .running))) and allb (taskCount (viewTables (whole k ws b))) standsRight) (view-tasks k ws b T tidy))

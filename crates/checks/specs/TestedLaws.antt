@@ -3,22 +3,25 @@ use mathlib.Core.Path.{_≡_, refl, ap, _∙_}
 use mathlib.Core.Logic.{inl, inr}
 use mathlib.Core.List.{List}
 use mathlib.Core.Bool.{Bool, true, false, cond, not}
-use Prim.Native.Nat.{ℕ, _%_}
+use Prim.Native.Nat.{ℕ, zero, suc, _%_, _<_}
 use native.Mathlib.Omega.{arith}
 use native.Mathlib.Decide.{decLt}
 use lib.Dec.{ltb, eqb}
 use lib.ListN.{length, getD, List·getD-eq-default}
-use borrow.Author.Tests.{eqb-true, lt-ltb, le-ltb}
+use borrow.Author.Tests.{eqb-true, not-true, lt-ltb, le-ltb}
 use Rattle.lists.specs.Test.{_and_, _or_, allb}
 use Rattle.lists.specs.Table.{filled}
-use Rattle.lists.specs.TestLaws.{which, all-same, all-and}
+use Rattle.lists.specs.TestLaws.{which, or-none, all-true, all-same, all-and}
 use Rattle.lists.specs.TableLaws.{read-any, getD-filled}
-use Rattle.rules.specs.Sizes.{taskPlaces, maxMutexes, maxSemaphores, levels, onMutex, onSemaphore}
+use Rattle.rules.specs.Sizes.{taskPlaces, maxMutexes, maxSemaphores, levels, onMutex, onSemaphore, onSend}
 use Rattle.task_lists.specs.TaskList.{noId, usedPlaces, idFits, idFitsAt, idFitsBy}
 use Rattle.task_lists.specs.TaskListLaws.{used-flag}
-use Rattle.record.specs.Reads.{ledBy}
-use Rattle.checks.specs.Checks.{unusedAt, unusedBy, unusedIn, priorityAt, priorityFitsBy, othersUnused, waitFitsAt, timeFitsAt, outcomeFitsAt, tasksIn, blockedBy, blockedAt, blockedFits, blockedFitsAt, emptyAt, atObject}
+use Rattle.walks.specs.Walk.{lent, lentBy}
+use Rattle.record.specs.Reads.{ledBy, leadsNowhereAt, heirAt}
+use Rattle.checks.specs.Checks.{unusedAt, unusedBy, unusedIn, priorityAt, priorityFitsBy, othersUnused, waitFitsAt, timeFitsAt, outcomeFitsAt, tasksIn, blockedBy, blockedAt, blockedFits, blockedFitsAt, emptyAt, atObject, sameAt, levelsIn}
 use Rattle.record.specs.declared.Tasks.{Tasks}  -- keep
+use Rattle.record.specs.declared.Mutexes.{Mutexes}  -- keep
+use Rattle.record.specs.declared.Queues.{Queues}  -- keep
 
 pub unused-same : (column : List ℕ) (n : ℕ) → allb taskPlaces (unusedBy column (usedPlaces n)) ≡ allb taskPlaces (unusedAt column n)
 unused-same column n = all-same _ _ _ _ refl (λ i h. ap (λ (b : Bool). b or eqb (getD column i 0) 0) (used-flag n i h))
@@ -75,11 +78,11 @@ owned object owners g = elim (decLt object maxMutexes) [
 ]
 
 -- what is awaited isn't available: one task, by the tables
-blocked-task : (kind object n : ℕ) (owners counts : List ℕ) → length owners ≡ maxMutexes
-    → blockedFits kind object n (ledBy owners kind object) (emptyAt counts (object % maxSemaphores))
+blocked-task : (kind object n : ℕ) (owners queues counts : List ℕ) → length owners ≡ maxMutexes
+    → blockedFits kind object n (ledBy owners queues kind object) (emptyAt counts (object % maxSemaphores))
     ≡ blockedBy kind object n (getD owners (object % maxMutexes) 0) (getD counts (object % maxSemaphores) 0)
 unfolding blockedFits blockedBy ledBy
-blocked-task kind object n owners counts g = elim (which (eqb kind onMutex)) [
+blocked-task kind object n owners queues counts g = elim (which (eqb kind onMutex)) [
   | inl e ↦ rw e (owned object owners g)
   | inr e ↦ rw e (elim (which (eqb kind onSemaphore)) [
     | inl u ↦ rw u (empty (eqb (getD counts (object % maxSemaphores) 0) 0))
@@ -91,14 +94,35 @@ blocked-task kind object n owners counts g = elim (which (eqb kind onMutex)) [
     empty true = refl
     empty false = refl
 
-pub blocked-tables : (waits objects owners counts : List ℕ) (n : ℕ) → length owners ≡ maxMutexes
-    → allb taskPlaces (blockedFitsAt waits objects (filled taskPlaces (λ i. ledBy owners (getD waits i 0) (getD objects i 0)))
+pub blocked-tables : (waits objects owners queues counts : List ℕ) (n : ℕ) → length owners ≡ maxMutexes
+    → allb taskPlaces (blockedFitsAt waits objects (filled taskPlaces (λ i. ledBy owners queues (getD waits i 0) (getD objects i 0)))
     (filled taskPlaces (atObject objects (filled maxSemaphores (emptyAt counts)))) n)
     ≡ allb taskPlaces (blockedAt waits objects owners counts n)
-blocked-tables waits objects owners counts n g = all-same _ _ _ _ refl (λ i h.
+blocked-tables waits objects owners queues counts n g = all-same _ _ _ _ refl (λ i h.
     rw (
-      getD-filled taskPlaces (λ j. ledBy owners (getD waits j 0) (getD objects j 0)) 0 i h,
+      getD-filled taskPlaces (λ j. ledBy owners queues (getD waits j 0) (getD objects j 0)) 0 i h,
       getD-filled taskPlaces (atObject objects (filled maxSemaphores (emptyAt counts))) 0 i h,
       getD-filled maxSemaphores (emptyAt counts) 0 (getD objects i 0 % maxSemaphores) (omega arith),
     )
-    (blocked-task (getD waits i 0) (getD objects i 0) n owners counts g))
+    (blocked-task (getD waits i 0) (getD objects i 0) n owners queues counts g))
+
+-- a wait for something else leads to nobody
+led-none : (mutexes queues waits objects : List ℕ) (i : ℕ) → leadsNowhereAt waits i ≡ true → ledBy mutexes queues (getD waits i 0) (getD objects i 0) ≡ noId
+unfolding ledBy
+led-none mutexes queues waits objects i e = let n = or-none _ _ (not-true _ e) in rw (n .0, n .1) refl
+
+-- where nobody is lent anything, levels are own priorities
+lent-none : (own to level : List ℕ) (n : ℕ) → ((i : ℕ) → i < n → getD to i 0 ≡ noId) → lentBy own to level n ≡ own
+unfolding lentBy lent
+lent-none own to level zero h = refl
+lent-none own to level (suc n) h = rw (h n (omega arith), lent-none own to level n (λ i l. h i (omega arith))) refl
+
+-- so it is where nobody waits for a mutex or to send
+pub levels-none : (own level waits objects : List ℕ) (m : Mutexes) (x : Queues) → allb taskPlaces (leadsNowhereAt waits) ≡ true
+    → levelsIn own level waits objects m x ≡ allb taskPlaces (sameAt level own)
+unfolding levelsIn
+levels-none own level waits objects m x e =
+    let heirs = filled maxMutexes (heirAt m) in
+    let to : ℕ → ℕ = λ i. ledBy heirs (x .owner) (getD waits i 0) (getD objects i 0) in
+    ap (λ (l : List ℕ). allb taskPlaces (sameAt level l)) (lent-none own (filled taskPlaces to) level taskPlaces
+    (λ i h. getD-filled taskPlaces to 0 i h ∙ led-none heirs (x .owner) waits objects i (all-true taskPlaces (leadsNowhereAt waits) e i h)))

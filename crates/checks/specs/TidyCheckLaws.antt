@@ -12,13 +12,13 @@ use lib.ListN.{length, getD}
 use borrow.Author.Tests.{ltb-true, ltb-false, leb-true, eqb-true, lt-ltb, le-leb, eq-eqb}
 use Rattle.lists.specs.Test.{_and_, _or_, allb}
 use Rattle.lists.specs.TestLaws.{which, by-test, and-l, and-r, true-and, or-true, or-l, or-r, all-true, true-all}
-use Rattle.rules.specs.Sizes.{taskPlaces, maxMutexes, maxSemaphores}
+use Rattle.rules.specs.Sizes.{taskPlaces, maxMutexes, maxSemaphores, maxQueues}
 use Rattle.task_lists.specs.TaskList.{places, noId, idFitsAt}
 use Rattle.task_lists.specs.TaskListLaws.{ids-fit}
-use Rattle.record.specs.SoundRecord.{usedTaskb, unusedTaskb, taskPlaceb, tasksTidyb, idb, mutexPlaceb, mutexesTidyb, semPlaceb, semaphoresTidyb, taskListTidyb, tidyb}
+use Rattle.record.specs.SoundRecord.{isObjectWait, queuePlaceb, queuesTidyb, usedTaskb, unusedTaskb, taskPlaceb, tasksTidyb, idb, mutexPlaceb, mutexesTidyb, semPlaceb, semaphoresTidyb, taskListTidyb, tidyb}
 use Rattle.record.specs.GoodRecord.{Typed}
-use Rattle.record.specs.TidyLaws.{tasks-fit, mutexes-fit, semaphores-fit, ready-fits, waiting-fits, started-flag, used-task, unused-at}
-use Rattle.checks.specs.Checks.{sizesIn, unusedAt, unusedIn, waitFits, waitFitsAt, timeFits, timeFitsAt, tasksIn, mutexFits, mutexFitsAt, semFits, semFitsAt, objectsIn, listsIn}
+use Rattle.record.specs.TidyLaws.{tasks-fit, mutexes-fit, semaphores-fit, queues-fit, ready-fits, waiting-fits, started-flag, used-task, unused-at}
+use Rattle.checks.specs.Checks.{queueFits, queueFitsAt, queuesIn, sizesIn, unusedAt, unusedIn, waitFits, waitFitsAt, timeFits, timeFitsAt, tasksIn, mutexFits, mutexFitsAt, semFits, semFitsAt, objectsIn, listsIn}
 use Rattle.record.specs.declared.State.{State}  -- keep
 use Rattle.task_lists.specs.declared.TaskList.{TaskList}  -- keep
 
@@ -110,18 +110,33 @@ module _ (k : State) (objects : objectsIn (k .mutexes) (k .semaphores) (k .tasks
     | inr u ↦ or-r _ _ (rw u at (sem-fits j l))
   ]))
 
+-- the queues' places
+module _ (k : State) (space : ℕ) (queues : queuesIn (k .queues) (k .tasks .n) space ≡ true) where
+  queue-fits : (q : ℕ) → q < maxQueues → queueFitsAt (k .queues) (k .tasks .n) q ≡ true
+  unfolding queuesIn
+  queue-fits = all-true maxQueues (queueFitsAt (k .queues) (k .tasks .n)) (and-l _ _ queues)
+
+  queues-tidy : k .tasks .n ≤ taskPlaces → k .queues .n ≤ maxQueues → queuesTidyb (k .queues) ≡ true
+  unfolding queuesTidyb queuePlaceb queueFits
+  queues-tidy few fit = true-and _ _ (le-leb (k .queues .n) maxQueues fit) (true-all maxQueues _ (λ q l. elim (which (ltb q (k .queues .n))) [
+    | inl u ↦ (let e = and-r _ _ (and-r _ _ (rw u at (queue-fits q l))) in rw u (true-and _ _ (id-in (getD (k .queues .owner) q 0) (k .tasks .n) few (and-l _ _ e)) (and-l _ _ (and-r _ _ e))))
+    | inr u ↦ rw u (rw u at (queue-fits q l))
+  ]))
+
 -- a list's places
 list-tidy : (q : TaskList) (tasks : ℕ) → q .n ≤ places → length (q .ids) ≡ places → allb places (idFitsAt (q .ids) (q .n) tasks) ≡ true → taskListTidyb q ≡ true
 unfolding taskListTidyb
 list-tidy q tasks h k e = true-and _ _ (le-leb (q .n) places h) (and-r _ _ (sym (ids-fit q tasks h k) ∙ e))
 
 -- a record that passes these tests is tidy
-pub checks-tidy : (k : State) → Typed k → sizesIn k ≡ true → tasksIn (k .tasks) (k .clock) ≡ true → objectsIn (k .mutexes) (k .semaphores) (k .tasks .n) ≡ true → listsIn (k .ready) (k .waiting) (k .tasks .n) ≡ true → tidyb k ≡ true
+pub checks-tidy : (k : State) (space : ℕ) → Typed k → sizesIn k ≡ true → tasksIn (k .tasks) (k .clock) ≡ true → objectsIn (k .mutexes) (k .semaphores) (k .tasks .n) ≡ true
+    → queuesIn (k .queues) (k .tasks .n) space ≡ true → listsIn (k .ready) (k .waiting) (k .tasks .n) ≡ true → tidyb k ≡ true
 unfolding sizesIn listsIn tidyb
-checks-tidy k T s₀ tasks objects lists =
+checks-tidy k space T s₀ tasks objects queues lists =
     let s₁ = and-r _ _ s₀ in
     let s₂ = and-r _ _ s₁ in
-    let s₃ = and-r _ _ s₂ in
+    let q₂ = and-r _ _ s₂ in
+    let s₃ = and-r _ _ q₂ in
     let s₄ = and-r _ _ s₃ in
     let s₅ = and-r _ _ s₄ in
     let few = leb-true (k .tasks .n) taskPlaces (and-l _ _ s₀) in
@@ -130,7 +145,7 @@ checks-tidy k T s₀ tasks objects lists =
     (true-and _ _ (semaphores-tidy k objects (leb-true _ _ (and-l _ _ s₂)))
     (true-and _ _ (list-tidy (k .ready) (k .tasks .n) (leb-true _ _ (and-l _ _ s₃)) (T .ready-length) (and-l _ _ lists))
     (true-and _ _ (list-tidy (k .waiting) (k .tasks .n) (leb-true _ _ (and-l _ _ s₄)) (T .waiting-length) (and-r _ _ lists))
-    (true-and _ _ (and-l _ _ s₅) (id-in (k .running) (k .tasks .n) few (and-r _ _ s₅)))))))
+    (true-and _ _ (and-l _ _ s₅) (true-and _ _ (id-in (k .running) (k .tasks .n) few (and-r _ _ s₅)) (queues-tidy k space queues few (leb-true _ _ (and-l _ _ q₂)))))))))
 
 module _ (k : State) (tidy : tidyb k ≡ true) where
   used-wait : (i : ℕ) → i < k .tasks .n → waitFitsAt (k .tasks .wait) (k .tasks .object) (k .tasks .timed) i ≡ true
@@ -148,9 +163,10 @@ module _ (k : State) (tidy : tidyb k ≡ true) where
       true-and _ _ (le-leb _ taskPlaces (tasks-fit k tidy))
       (true-and _ _ (le-leb _ maxMutexes (mutexes-fit k tidy))
       (true-and _ _ (le-leb _ maxSemaphores (semaphores-fit k tidy))
+      (true-and _ _ (le-leb _ maxQueues (queues-fit k tidy))
       (true-and _ _ (le-leb _ places (ready-fits k tidy))
       (true-and _ _ (le-leb _ places (waiting-fits k tidy))
-      (true-and _ _ (started-flag k tidy) runner)))))
+      (true-and _ _ (started-flag k tidy) runner))))))
 
   pub tidy-unused : unusedIn (k .tasks) ≡ true
   unfolding unusedIn
@@ -163,7 +179,7 @@ module _ (k : State) (tidy : tidyb k ≡ true) where
       (at-zero (k .tasks .timed) (k .tasks .n) (λ i h l. unused-at k tidy i h l .no-timed))))))
 
   pub tidy-waits : allb taskPlaces (waitFitsAt (k .tasks .wait) (k .tasks .object) (k .tasks .timed)) ≡ true
-  unfolding waitFits _and_ _or_
+  unfolding waitFits isObjectWait _and_ _or_
   tidy-waits = true-all taskPlaces _ (λ i l. elim (decLt i (k .tasks .n)) [
     | yes h ↦ used-wait i h
     | no h ↦ (let u = unused-at k tidy i (omega arith) l in rw (u .no-wait, u .no-object, u .no-timed) refl)

@@ -1,43 +1,58 @@
-// The step of a code, on a record that is handed in and handed back.
+// What the functions for C do once the record is taken out: the record by value, its words and the block in lent memory.
 ghost use mathlib.Core.Path.{_≡_};
-ghost use Rattle.calls.specs.Call.{requestOf, callOf};
+ghost use mathlib.Core.List.{List};
+ghost use Prim.Native.Nat.{ℕ};
+ghost use lib.ListN.{length};
+ghost use Rattle.record.specs.Whole.{whole};
+ghost use Rattle.record.specs.SoundRecord.{soundOf};
+ghost use Rattle.moves.specs.Moves.{wordsAfter, blockAfter};
+ghost use Rattle.calls.specs.Call.{CallGives};
 ghost use Rattle.calls.specs.Packed.{Carries};
-use crate::Stepped;
 use calls::answers;
-use record::Out;
+use record::Held;
+use record::Plan;
 use record::State;
+use record::WORDS;
 
-// The step of a code, with its answer in parts.
-pub fn made(s: State, code: u32, a: u32, b: u32) -> Out
-    ensures { λ r. ⌜ r ≡ callOf s (requestOf code a b) ⌝ }
+// Is the record sound, with the words held and a block of `space` words?
+pub fn tested(x: Held, space: usize) -> bool
+    ensures { λ r. ⌜ ((block : List ℕ) → length block ≡ space → r ≡ soundOf (whole (x .state) (x .words) block)) ⌝ }
 {
-    calls::call(s, calls::request_of(code, a, b))
+    let s = x.state;
+    let words = x.words;
+    sound::is_sound(s, &words, space)
 }
 
-// What a step gives, taken apart: the record after it, and the answer in one number.
-pub fn state_of(o: Out) -> State
+// The step of a code on a record with its words, before any word is moved: the message has `count` words, the lent block `space`.
+pub fn made(
+    s: State,
+    code: u32,
+    a: u32,
+    b: u32,
+    c: u32,
+    words: &mut [u32; WORDS],
+    count: usize,
+    space: usize,
+) -> Plan
+    ensures { λ r. ⌜ CallGives s code a b c (now (words .entry)) count space r × (now (words .exit) ≡ now (words .entry)) ⌝ }
+{
+    let x = calls::request_of(code, a, b, c);
+    calls::call(s, x, count, space, words)
+}
+
+// The record after the step.
+pub fn state_of(o: Plan) -> State
     ensures { λ r. ⌜ r ≡ o .state ⌝ }
 {
     o.state
 }
 
-pub fn code_of(o: Out) -> u64
-    ensures { λ r. ⌜ Carries r (o .answer) ⌝ }
+// What the step moves is moved, and its answer given in one number.
+pub fn given(o: Plan, words: &mut [u32; WORDS], message: &[u32], block: &mut [u32]) -> u64
+    ensures { λ r. ⌜ Carries r (o .answer) × (now (words .exit) ≡ wordsAfter (o .moves) (now (words .entry)) (now (message .entry)) (now (block .entry))) × (now (block .exit) ≡ blockAfter (o .moves) (now (words .entry)) (now (message .entry)) (now (block .entry))) ⌝ }
 {
+    let m = o.moves;
+    moves::make(m, words, message, block);
     let a = o.answer;
     answers::answer_code(a)
-}
-
-// The record after the step of a code, and the answer in one number; the caller's own record stays as it is.
-#[no_mangle]
-pub extern "C" fn cungkalisa_step_by_value(s: State, code: u32, a: u32, b: u32) -> Stepped
-    ensures { λ r. ⌜ Carries (r .answer) (callOf s (requestOf code a b) .answer) × (r .state ≡ callOf s (requestOf code a b) .state) ⌝ }
-{
-    let o = made(s, code, a, b);
-    let n = state_of(o);
-    let answer = code_of(o);
-    Stepped {
-        state: n,
-        answer: answer,
-    }
 }

@@ -1,4 +1,4 @@
-// The kernel for firmware: one state record, changed where it lies or handed on, by functions that C can call.
+// The kernel for firmware: one state record, changed where it lies by functions that C can call.
 mod answers;
 mod by_value;
 mod in_place;
@@ -6,14 +6,6 @@ mod in_place;
 pub use answers::cungkalisa_number;
 pub use answers::cungkalisa_run;
 pub use answers::cungkalisa_value;
-pub use by_value::cungkalisa_step_by_value;
 pub use in_place::cungkalisa_fresh;
 pub use in_place::cungkalisa_is_sound;
 pub use in_place::cungkalisa_step;
-
-// What comes of a step by value: the record after it, and the answer in one number.
-#[repr(C)]
-pub struct Stepped {
-    pub state: record::State,
-    pub answer: u64,
-}

@@ -1,9 +1,13 @@
 // Records that are not sound: each phrase of "Sound state" broken alone. Each is answered 15, unchanged, with no task to run.
 use crate::edges;
+use crate::kept;
+use crate::kept::Kept;
 use crate::records;
 use crate::show;
 use record::MUTEXES;
 use record::Mutexes;
+use record::QUEUES;
+use record::Queues;
 use record::Request;
 use record::SEMAPHORES;
 use record::Semaphores;
@@ -12,19 +16,20 @@ use record::TASKS;
 use record::Tasks;
 use task_lists::TaskList;
 
-// A tick on the record: the label, the answer, and whether the record stayed.
-fn tried(label: &[u8], s: State) {
-    let o = kernel::step(s, Request::Tick);
+// A step on the record: the label, the answer, and whether all stayed: the record, the words that tasks hold, and the block.
+pub fn shown(label: &[u8], k: Kept, x: Request) {
+    let o = kept::step(k, x, &[0u32; 0]);
     let a = o.answer;
-    let next = o.state;
+    let next = o.kept;
     show::text(label);
     show::text(b": ");
     show::answer(a);
-    if records::same(s, next) {
-        show::text(b" unchanged\n");
-        return;
-    }
-    show::text(b" changed\n");
+    show::stayed(records::same(k, next));
+}
+
+// A tick on a record without queues.
+fn tried(label: &[u8], s: State) {
+    shown(label, kept::with_block(s, 0), Request::Tick);
 }
 
 // Task 2 waits for mutex 0, which task 0 owns, for ten ticks; task 0 runs at the waiter's level, task 1 is ready.
@@ -45,7 +50,7 @@ fn set_up() -> State {
     edges::made([5, 3, 3], 1)
 }
 
-pub fn sound_ones() {
+fn sound_ones() {
     show::text(b"records\n");
     tried(b"fresh", record::fresh());
     tried(b"set-up", set_up());
@@ -71,7 +76,7 @@ fn try_semaphores(label: &[u8], c: Semaphores) {
     tried(label, s);
 }
 
-pub fn tasks() {
+fn tasks() {
     let s = base();
     let good = s.tasks;
     let mut t = good;
@@ -92,7 +97,7 @@ pub fn tasks() {
 }
 
 // Outcomes, and unused places of the tables of tasks.
-pub fn outcomes() {
+fn outcomes() {
     let s = base();
     let good = s.tasks;
     let mut t = good;
@@ -112,12 +117,12 @@ pub fn outcomes() {
     try_tasks(b"outcome in an unused place", t);
 }
 
-pub fn waits() {
+fn waits() {
     let s = base();
     let good = s.tasks;
     let mut t = good;
-    t.wait[2] = 4;
-    try_tasks(b"kind of wait 4", t);
+    t.wait[2] = 6;
+    try_tasks(b"kind of wait 6", t);
     t = good;
     t.object[2] = 1;
     try_tasks(b"waits for a free mutex", t);
@@ -130,7 +135,7 @@ pub fn waits() {
 }
 
 // Due times, and what only a wait may have.
-pub fn times() {
+fn times() {
     let s = base();
     let clock = s.clock;
     let good = s.tasks;
@@ -160,7 +165,7 @@ pub fn times() {
     try_tasks(b"timed without a wait", t);
 }
 
-pub fn mutexes() {
+fn mutexes() {
     let s = base();
     let good = s.mutexes;
     let mut m = good;
@@ -183,7 +188,7 @@ pub fn mutexes() {
     try_mutexes(b"a kind in an unused place", m);
 }
 
-pub fn semaphores() {
+fn semaphores() {
     let s = base();
     let good = s.semaphores;
     let mut c = good;
@@ -220,7 +225,7 @@ fn try_waiting(label: &[u8], q: TaskList) {
     tried(label, s);
 }
 
-pub fn orders() {
+fn orders() {
     let s = base();
     let good = s.ready;
     let mut q = good;
@@ -249,7 +254,7 @@ pub fn orders() {
     try_waiting(b"an id in an unused place of the waiting order", q);
 }
 
-pub fn set_up_orders() {
+fn set_up_orders() {
     let s = set_up();
     let good = s.ready;
     let mut q = good;
@@ -263,7 +268,7 @@ pub fn set_up_orders() {
     try_set_up(b"equal levels not by id in set-up", q);
 }
 
-pub fn phases() {
+fn phases() {
     let s = base();
     let mut r = s;
     r.started = 2;
@@ -282,7 +287,7 @@ pub fn phases() {
     tried(b"a ready task runs too", r);
 }
 
-pub fn set_up_phases() {
+fn set_up_phases() {
     let s = set_up();
     let mut r = s;
     r.clock = 1;
@@ -299,7 +304,18 @@ pub fn set_up_phases() {
     tried(b"hold with nobody running", r);
 }
 
-pub fn wild() {
+fn wild_queues() -> Queues {
+    Queues {
+        width: [255u8; QUEUES],
+        depth: [255u8; QUEUES],
+        owner: [255u8; QUEUES],
+        oldest: [255u8; QUEUES],
+        used: [255u8; QUEUES],
+        n: 255,
+    }
+}
+
+fn wild() {
     let t = Tasks {
         due: [4294967295u32; TASKS],
         priority: [255u8; TASKS],
@@ -329,6 +345,7 @@ pub fn wild() {
         semaphores: c,
         clock: 4294967295,
         mutexes: m,
+        queues: wild_queues(),
         ready: q,
         waiting: q,
         started: 255,
@@ -336,4 +353,19 @@ pub fn wild() {
         running: 255,
     };
     tried(b"255 everywhere", s);
+}
+
+pub fn all() {
+    sound_ones();
+    tasks();
+    outcomes();
+    waits();
+    times();
+    mutexes();
+    semaphores();
+    orders();
+    set_up_orders();
+    phases();
+    set_up_phases();
+    wild();
 }

@@ -1,23 +1,20 @@
 // The edges that document 01 wants run.
+use crate::kept;
+use crate::run;
 use crate::show;
 use record::Request;
 use record::State;
 
-// One step, its answer on a line of its own.
+// One step, its answer on a line of its own. No record here has a queue, so it needs no block, and no task holds a word.
 pub fn go(s: State, x: Request) -> State {
-    let o = kernel::step(s, x);
-    let a = o.answer;
-    show::answer(a);
-    show::text(b"\n");
-    let next = o.state;
-    next
+    let k = run::ask(kept::with_block(s, 0), x);
+    k.state
 }
 
 // One step whose answer is not shown.
 pub fn quiet(s: State, x: Request) -> State {
-    let o = kernel::step(s, x);
-    let next = o.state;
-    next
+    let o = kept::step(kept::with_block(s, 0), x, &[0u32; 0]);
+    o.kept.state
 }
 
 pub fn made(priorities: [u32; 3], kind: u32) -> State {
@@ -51,7 +48,7 @@ pub fn made(priorities: [u32; 3], kind: u32) -> State {
 }
 
 // The whole session of document 01.
-pub fn session() {
+fn session() {
     show::text(b"session\n");
     let a = go(record::fresh(), Request::Task { priority: 5 });
     let b = go(a, Request::Task { priority: 3 });
@@ -70,7 +67,7 @@ pub fn session() {
 }
 
 // "time 2147483647 and 2147483648"
-pub fn times() {
+fn times() {
     show::text(b"times\n");
     let a = quiet(made([5, 3, 1], 1), Request::Start);
     go(a, Request::Sleep { time: 2147483648 });
@@ -118,7 +115,7 @@ fn hold_85_more(s: State) -> State {
 }
 
 // "hold 255 times, then once more"
-pub fn holds() {
+fn holds() {
     show::text(b"hold\n");
     let s = quiet(made([5, 3, 1], 1), Request::Start);
     let a = hold_85_more(s);
@@ -133,7 +130,7 @@ pub fn holds() {
 }
 
 // "a waiter timing out lowers every owner up its chain"
-pub fn time_out_lowers() {
+fn time_out_lowers() {
     show::text(b"time-out\n");
     // tasks of priority 9, 5, 2 all run in turn: 0 owns mutex 0; 1 owns mutex 1 and waits for 0; 2 waits for 1 with 2 ticks
     let a = quiet(made([9, 5, 2], 1), Request::Start);
@@ -158,4 +155,11 @@ pub fn time_out_lowers() {
     go(k, Request::Outcome { task: 2 });
     go(k, Request::Level { task: 0 });
     go(k, Request::Level { task: 1 });
+}
+
+pub fn all() {
+    session();
+    times();
+    holds();
+    time_out_lowers();
 }

@@ -1,24 +1,18 @@
-// Steps through the edges that document 01 wants run, and through damaged records, and prints what comes back.
+// Steps through the edges that document 01 wants run, through those of document 02's queues, and through damaged records, and prints what comes back.
 mod damaged;
+mod damaged_queues;
 mod edges;
+mod kept;
+mod messages;
+mod queue_refusals;
 mod records;
+mod run;
 mod show;
 
 fn main() {
-    edges::session();
-    edges::times();
-    edges::holds();
-    edges::time_out_lowers();
-    damaged::sound_ones();
-    damaged::tasks();
-    damaged::outcomes();
-    damaged::waits();
-    damaged::times();
-    damaged::mutexes();
-    damaged::semaphores();
-    damaged::orders();
-    damaged::set_up_orders();
-    damaged::phases();
-    damaged::set_up_phases();
-    damaged::wild();
+    edges::all();
+    queue_refusals::all();
+    messages::all();
+    damaged::all();
+    damaged_queues::all();
 }

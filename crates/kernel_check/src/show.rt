@@ -1,4 +1,6 @@
 // Writes to standard output.
+use crate::kept::Kept;
+use crate::kept::ROOM;
 use libc::STDOUT_FILENO;
 use record::Answer;
 
@@ -32,4 +34,34 @@ pub fn answer(a: Answer) {
         Answer::Accepted { number, value, run } => fields(number, value, run),
         Answer::Refused { number, value, run } => fields(number, value, run),
     }
+}
+
+// Is all as it was before the step?
+pub fn stayed(same: bool) {
+    if same {
+        text(b" unchanged\n");
+        return;
+    }
+    text(b" changed\n");
+}
+
+fn word(n: u32) {
+    text(b" ");
+    number(n as u64);
+}
+
+fn words(block: [u32; ROOM], n: usize) {
+    for i in 0..ROOM {
+        if i < n {
+            word(block[i]);
+        }
+    }
+}
+
+// The words of the block that steps are lent.
+pub fn block(k: Kept) {
+    text(b"block");
+    let b = k.block;
+    words(b, k.space);
+    text(b"\n");
 }

@@ -5,18 +5,23 @@ use mathlib.Core.Bool.{cond}
 use Prim.Native.Nat.{ℕ, _%_}
 use native.Mathlib.Omega.{arith}
 use native.Mathlib.Decide.{decLt}
+use native.Mathlib.Nat.{mod-eq-of-lt}
 use lib.Dec.{ltb, eqb}
 use lib.ListN.{length, getD, List·getD-eq-default}
 use borrow.Author.Tests.{lt-ltb, le-ltb}
 use Rattle.lists.specs.TableLaws.{read-any}
-use Rattle.rules.specs.Sizes.{maxMutexes, onMutex}
+use Rattle.rules.specs.Sizes.{maxMutexes, maxQueues, onMutex, onSend}
 use Rattle.task_lists.specs.TaskList.{noId}
 use Rattle.record.specs.Reads.{ledBy}
 
-pub led-same : (mutexes : List ℕ) (kind object : ℕ) → length mutexes ≡ maxMutexes
-    → cond (eqb kind onMutex) (cond (ltb object maxMutexes) (getD mutexes (object % maxMutexes) 0) noId) noId ≡ ledBy mutexes kind object
-unfolding ledBy
-led-same mutexes kind object g = elim (decLt object maxMutexes) [
-  | yes h ↦ (let q : object % maxMutexes ≡ object = omega arith in rw (lt-ltb object maxMutexes h, q, read-any mutexes object 0 noId (omega (arith, g))) refl)
-  | no h ↦ rw (le-ltb object maxMutexes (omega arith), List·getD-eq-default mutexes noId {n = object} (omega (arith, g))) refl
+-- a table of n places read at a number, and none where there is no such place
+at-place : (l : List ℕ) (n object : ℕ) → length l ≡ n → cond (ltb object n) (getD l (object % n) 0) noId ≡ getD l object noId
+at-place l n object g = elim (decLt object n) [
+  | yes p ↦ (let q : object % n ≡ object = mod-eq-of-lt p in rw (lt-ltb object n p, q, read-any l object 0 noId (omega (arith, g))) refl)
+  | no p ↦ rw (le-ltb object n (omega arith), List·getD-eq-default l noId {n = object} (omega (arith, g))) refl
 ]
+
+pub led-same : (mutexes queues : List ℕ) (kind object : ℕ) → length mutexes ≡ maxMutexes → length queues ≡ maxQueues
+    → cond (eqb kind onMutex) (cond (ltb object maxMutexes) (getD mutexes (object % maxMutexes) 0) noId) (cond (eqb kind onSend) (cond (ltb object maxQueues) (getD queues (object % maxQueues) 0) noId) noId) ≡ ledBy mutexes queues kind object
+unfolding ledBy
+led-same mutexes queues kind object g h = rw (at-place mutexes maxMutexes object g, at-place queues maxQueues object h) refl

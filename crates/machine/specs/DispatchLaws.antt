@@ -75,8 +75,8 @@ unfolding meet
 meet-displaces s r x l e = rw e refl
 
 -- dispatching a packed state
-module _ (s : Model) (F : Facts (s .tables)) (on : s .started ≡ true) where
-  up : (r : Option ℕ) (l : List ℕ) → eqb ((pack (placed s r l)) .started) 0 ≡ false
+module _ (o : List ℕ) (s : Model) (F : Facts (s .tables)) (on : s .started ≡ true) where
+  up : (r : Option ℕ) (l : List ℕ) → eqb ((pack o (placed s r l)) .started) 0 ≡ false
   unfolding pack
   up r l = rw on refl
 
@@ -105,22 +105,22 @@ module _ (s : Model) (F : Facts (s .tables)) (on : s .started ≡ true) where
       ∙ head-taskListOf lv r l (room (some r) x l P)
       ∙ ap (λ f. taskListOf (insertHead f r l)) (fun-ext (level-read (s .tables) (s .clock)))
 
-  meet-pack : (r : Option ℕ) (l : List ℕ) → Places (placed s r l) [] → dispatched (pack (placed s r l)) ≡ pack (meet s r l)
+  meet-pack : (r : Option ℕ) (l : List ℕ) → Places (placed s r l) [] → dispatched (pack o (placed s r l)) ≡ pack o (meet s r l)
   unfolding meet pack idOf taskListOf pad _and_
-  meet-pack r [] P = case-empty (pack (placed s r [])) (up r []) refl
+  meet-pack r [] P = case-empty (pack o (placed s r [])) (up r []) refl
   meet-pack none (x ∷ l) P =
-      case-idle (pack (placed s none (x ∷ l))) (up none (x ∷ l)) (ne-eqb (suc (length l)) 0 (λ e. omega arith)) refl
-      ∙ ap (λ q. ran (pack (placed s none (x ∷ l))) x q) (first-leaves x l)
+      case-idle (pack o (placed s none (x ∷ l))) (up none (x ∷ l)) (ne-eqb (suc (length l)) 0 (λ e. omega arith)) refl
+      ∙ ap (λ q. ran (pack o (placed s none (x ∷ l))) x q) (first-leaves x l)
   meet-pack (some r) (x ∷ l) P = elim (which (eqb (s .hold) 0)) [
     | inl e ↦ elim (which (ltb (levelOf s x) (levelOf s r))) [
-      | inl f ↦ case-displaced k (up (some r) (x ∷ l)) many runs e (test ∙ f) ∙ ap (λ q. ran k x q) (displaced-list r x l P) ∙ ap pack (sym (meet-displaces s r x l (true-and _ _ e f)))
-      | inr f ↦ case-stays k (up (some r) (x ∷ l)) many runs e (test ∙ f) ∙ ap pack (sym (meet-stays s r x l (rw e f)))
+      | inl f ↦ case-displaced k (up (some r) (x ∷ l)) many runs e (test ∙ f) ∙ ap (λ q. ran k x q) (displaced-list r x l P) ∙ ap (pack o) (sym (meet-displaces s r x l (true-and _ _ e f)))
+      | inr f ↦ case-stays k (up (some r) (x ∷ l)) many runs e (test ∙ f) ∙ ap (pack o) (sym (meet-stays s r x l (rw e f)))
     ]
-    | inr e ↦ case-held k (up (some r) (x ∷ l)) many runs e ∙ ap pack (sym (meet-stays s r x l (false-and _ _ e)))
+    | inr e ↦ case-held k (up (some r) (x ∷ l)) many runs e ∙ ap (pack o) (sym (meet-stays s r x l (false-and _ _ e)))
   ]
     where
       k : State
-      k = pack (placed s (some r) (x ∷ l))
+      k = pack o (placed s (some r) (x ∷ l))
 
       many : eqb (suc (length l)) 0 ≡ false
       many = ne-eqb (suc (length l)) 0 (λ e. omega arith)
@@ -144,9 +144,9 @@ case-off : (k : State) → eqb (k .started) 0 ≡ true → dispatched k ≡ k
 unfolding dispatched turnOf
 case-off k e = rw e refl
 
-pub dispatch-pack : (s : Model) → Facts (s .tables) → Places s [] → dispatched (pack s) ≡ pack (dispatch s)
+pub dispatch-pack : (o : List ℕ) (s : Model) → Facts (s .tables) → Places s [] → dispatched (pack o s) ≡ pack o (dispatch s)
 unfolding pack
-dispatch-pack s F P = elim (which (s .started)) [
-  | inl e ↦ meet-pack s F e (s .running) (s .ready) P ∙ ap pack (sym (dispatch-on s e))
-  | inr e ↦ case-off (pack s) (rw e refl) ∙ ap pack (sym (dispatch-off s e))
+dispatch-pack o s F P = elim (which (s .started)) [
+  | inl e ↦ meet-pack o s F e (s .running) (s .ready) P ∙ ap (pack o) (sym (dispatch-on s e))
+  | inr e ↦ case-off (pack o s) (rw e refl) ∙ ap (pack o) (sym (dispatch-off s e))
 ]

@@ -97,13 +97,13 @@ module _ (t : Tables) (F : Facts t) (p : ℕ → Bool) (named : (i : ℕ) → p 
             (ended-outcome (λ i. outcomeOn (keyOf ((packTasks t c) .wait) i) slept other) (λ i e. ap (λ z. cond (eqb z onTime) slept other) (wait-code t kindCode i refl) ∙ same i e))
             (ended-code kindCode refl) (ended-code objectCode refl) (ended-code timedCode refl)
 
-pub woke-pack : (s : Model) → Facts (s .tables) → (p : ℕ → Bool) → ((i : ℕ) → p i ≡ true → waitCount (waitOf (s .tables) i) ≡ 1) → (flags : List ℕ) → Flags flags p
+pub woke-pack : (o : List ℕ) (s : Model) → Facts (s .tables) → (p : ℕ → Bool) → ((i : ℕ) → p i ≡ true → waitCount (waitOf (s .tables) i) ≡ 1) → (flags : List ℕ) → Flags flags p
     → (out : ℕ → ℕ) (slept other : ℕ) → ((i : ℕ) → p i ≡ true → cond (eqb (kindCode (waitOf (s .tables) i)) onTime) slept other ≡ out i)
-    → woke (pack s) flags slept other ≡ packWith (levelColumn (s .tables)) (withTables s (endWaits (s .tables) p out))
+    → woke (pack o s) flags slept other ≡ packWith o (levelColumn (s .tables)) (withTables s (endWaits (s .tables) p out))
 unfolding woke pack packWith packSemaphores packMutexes
-woke-pack s F p named flags fl out slept other same =
-    ap (λ z. putWaiting (putTasks (pack s) z) (kept ((pack s) .waiting) flags 0)) (tasks-ended (s .tables) F p named flags fl out (s .clock) slept other same)
-    ∙ ap (λ z. putWaiting (putTasks (pack s) (putLevel (packTasks (endWaits (s .tables) p out) (s .clock)) (levelColumn (s .tables)))) z) (kept-ended (s .tables) F p named flags fl)
+woke-pack o s F p named flags fl out slept other same =
+    ap (λ z. putWaiting (putTasks (pack o s) z) (kept ((pack o s) .waiting) flags 0)) (tasks-ended (s .tables) F p named flags fl out (s .clock) slept other same)
+    ∙ ap (λ z. putWaiting (putTasks (pack o s) (putLevel (packTasks (endWaits (s .tables) p out) (s .clock)) (levelColumn (s .tables)))) z) (kept-ended (s .tables) F p named flags fl)
 
 -- a wait that begins, as it stands in the places of a task
 timed-for : (a : Awaited) (t : ℕ) → timedFor t ≡ timedCode (some (waitFor a t))
@@ -127,7 +127,7 @@ module _ (t : Tables) (F : Facts t) (r : ℕ) (h : r < taskCount t) where
       (begun-code kindCode (waitFor a x) refl) (begun-code objectCode (waitFor a x) refl) (begun-code timedCode (waitFor a x) (timed-for a x))
 
 -- the caller waits
-module _ (s : Model) (I : Inv s) (r : ℕ) (run : s .running ≡ some r) where
+module _ (o : List ℕ) (s : Model) (I : Inv s) (r : ℕ) (run : s .running ≡ some r) where
   waiting-short : suc (length (s .tables .tasks .waiting)) ≤ taskCount (s .tables)
   unfolding occ
   waiting-short = pigeonhole (taskCount (s .tables)) (r ∷ s .tables .tasks .waiting)
@@ -135,9 +135,9 @@ module _ (s : Model) (I : Inv s) (r : ℕ) (run : s .running ≡ some r) where
       (λ y m. in-below y (taskCount (s .tables)) (omega (arith, I .places y, ap (λ o. occ y (opt o)) run)))
 
   pub blocked-pack : (a : Awaited) (x : ℕ)
-      → blockedOn (pack s) r (awaitedKind a) (awaitedObject a) x ≡ packWith (levelColumn (s .tables)) (placed (withTables s (beginWait (s .tables) r (waitFor a x))) none (s .ready))
+      → blockedOn (pack o s) r (awaitedKind a) (awaitedObject a) x ≡ packWith o (levelColumn (s .tables)) (placed (withTables s (beginWait (s .tables) r (waitFor a x))) none (s .ready))
   unfolding blockedOn pack packWith packMutexes packSemaphores idOf
   blocked-pack a x =
-      ap (λ z. putRunning (putWaiting (putTasks (pack s) z) (pushed ((pack s) .waiting) r)) noId) (tasks-begun (s .tables) (I .facts) r (caller-in s I r run) (s .clock) a x)
-      ∙ ap (λ z. putRunning (putWaiting (putTasks (pack s) (putLevel (packTasks (beginWait (s .tables) r (waitFor a x)) (s .clock)) (levelColumn (s .tables)))) z) noId)
+      ap (λ z. putRunning (putWaiting (putTasks (pack o s) z) (pushed ((pack o s) .waiting) r)) noId) (tasks-begun (s .tables) (I .facts) r (caller-in s I r run) (s .clock) a x)
+      ∙ ap (λ z. putRunning (putWaiting (putTasks (pack o s) (putLevel (packTasks (beginWait (s .tables) r (waitFor a x)) (s .clock)) (levelColumn (s .tables)))) z) noId)
       (push-taskListOf (s .tables .tasks .waiting) r (omega (arith, waiting-short, I .facts .few-tasks)))

@@ -38,12 +38,12 @@ pub dispatch-still : (s : Model) → (s .started ≡ true → Runs s × Urgent s
 unfolding dispatch
 dispatch-still s h = by-test (λ (z : Model). z ≡ s) (s .started) (λ e. meet-still s (s .running) (s .ready) (h e .0) (h e .1)) (λ e. refl)
 
-module _ (s : Model) (I : Inv s) where
+module _ (o : List ℕ) (s : Model) (I : Inv s) where
   -- nothing moves, and no level changed
   pub quiet-pack : (t : Tables) (c h : ℕ) → Facts t → taskCount t ≡ taskCount (s .tables) → t .tasks .waiting ≡ s .tables .tasks .waiting → ((i : ℕ) → levelIn t i ≡ levelOf s i)
-      → (h ≡ 0 → s .hold ≡ 0) → packWith (levelColumn (s .tables)) (withHold (withClock (withTables s t) c) h) ≡ pack (dispatch (settle (levelOf s) (withHold (withClock (withTables s t) c) h) []))
-  quiet-pack t c h F n w same low = unchanged-pack s s′ n (I .ascending) (λ i h. same i)
-      ∙ ap pack (sym (dispatch-still (settle (levelOf s) s′ []) (λ e. runs (I .when-started e) order)))
+      → (h ≡ 0 → s .hold ≡ 0) → packWith o (levelColumn (s .tables)) (withHold (withClock (withTables s t) c) h) ≡ pack o (dispatch (settle (levelOf s) (withHold (withClock (withTables s t) c) h) []))
+  quiet-pack t c h F n w same low = unchanged-pack o s s′ n (I .ascending) (λ i h. same i)
+      ∙ ap (pack o) (sym (dispatch-still (settle (levelOf s) s′ []) (λ e. runs (I .when-started e) order)))
     where
       s′ : Model
       s′ = withHold (withClock (withTables s t) c) h
@@ -59,18 +59,18 @@ module _ (s : Model) (I : Inv s) where
 
   -- after settling, who may run is chosen
   module _ (e : Model) (woken : List ℕ) (F : Facts (e .tables)) (n : taskCount (e .tables) ≡ taskCount (s .tables)) (P : Places e woken) where
-    chosen-pack : dispatched (pack (settle (levelOf s) e woken)) ≡ pack (dispatch (settle (levelOf s) e woken))
+    chosen-pack : dispatched (pack o (settle (levelOf s) e woken)) ≡ pack o (dispatch (settle (levelOf s) e woken))
     unfolding occ
-    chosen-pack = dispatch-pack (settle (levelOf s) e woken) F
+    chosen-pack = dispatch-pack o (settle (levelOf s) e woken) F
         (λ i. omega (arith, P i, occ-settled (taskCount (e .tables)) (levelOf s) (levelOf e) (e .ready) woken i (omega (arith, P i)) (omega (arith, P i))))
 
     module _ (a : Asc (levelOf s) (e .ready)) (flags : List ℕ) (f : (i : ℕ) → eqb (keyOf flags i) 1 ≡ member i woken) where
-      pub settled-finish : dispatched (settled (packWith (levelColumn (s .tables)) e) flags) ≡ pack (dispatch (settle (levelOf s) e woken))
-      settled-finish = ap dispatched (settle-pack s e woken flags F n P a f) ∙ chosen-pack
+      pub settled-finish : dispatched (settled (packWith o (levelColumn (s .tables)) e) flags) ≡ pack o (dispatch (settle (levelOf s) e woken))
+      settled-finish = ap dispatched (settle-pack o s e woken flags F n P a f) ∙ chosen-pack
 
-      pub lined-finish : ((i : ℕ) → levelIn (e .tables) i ≡ levelOf s i) → dispatched (lined (packWith (levelColumn (s .tables)) e) flags) ≡ pack (dispatch (settle (levelOf s) e woken))
-      lined-finish same = ap dispatched (lined-pack s e woken flags F n P a f (λ i h. same i)) ∙ chosen-pack
+      pub lined-finish : ((i : ℕ) → levelIn (e .tables) i ≡ levelOf s i) → dispatched (lined (packWith o (levelColumn (s .tables)) e) flags) ≡ pack o (dispatch (settle (levelOf s) e woken))
+      lined-finish same = ap dispatched (lined-pack o s e woken flags F n P a f (λ i h. same i)) ∙ chosen-pack
 
   pub unchanged-finish : (e : Model) → Facts (e .tables) → taskCount (e .tables) ≡ taskCount (s .tables) → Places e [] → Asc (levelOf s) (e .ready)
-      → ((i : ℕ) → levelIn (e .tables) i ≡ levelOf s i) → dispatched (packWith (levelColumn (s .tables)) e) ≡ pack (dispatch (settle (levelOf s) e []))
-  unchanged-finish e F n P a same = ap dispatched (unchanged-pack s e n a (λ i h. same i)) ∙ chosen-pack e [] F n P
+      → ((i : ℕ) → levelIn (e .tables) i ≡ levelOf s i) → dispatched (packWith o (levelColumn (s .tables)) e) ≡ pack o (dispatch (settle (levelOf s) e []))
+  unchanged-finish e F n P a same = ap dispatched (unchanged-pack o s e n a (λ i h. same i)) ∙ chosen-pack e [] F n P

@@ -1,45 +1,152 @@
--- Every step of the machine on a packed sound state is the packed rule.
-use mathlib.Core.Path.{_≡_, ap, sym, _∙_}
-use mathlib.Core.Bool.{true}
+-- Every step of the machine on a sound record, once its words are moved, is what the step is defined to give.
+use mathlib.Core.Path.{_≡_, refl, ap, sym, _∙_, subst}
+use mathlib.Core.List.{List, [], _∷_}
+use mathlib.Core.Bool.{true, false}
+use mathlib.Core.Logic.{inl, inr}
+use mathlib.Core.Option.{Option, none, some}
+use Prim.Native.Nat.{ℕ, _≤_, _<_}
+use native.Mathlib.Omega.{arith}
+use native.Mathlib.Decide.{decLt}
+use lib.ListN.{length, List·getD-eq-default}
+use borrow.Author.Tests.{ltb-true, leb-false, eqb-true, not-false}
+use Rattle.lists.specs.Test.{someb}
+use Rattle.lists.specs.TestLaws.{which, and-r, or-none, some-true}
+use Rattle.rules.specs.Sizes.{maxTasks, maxQueues}
+use Rattle.rules.specs.Tables.{roomIn, messageIn, taskCount, queueCount, widthOf, messagesOf}
+use Rattle.rules.specs.Levels.{bestWaiter}
+use Rattle.rules.specs.Step.{task, mutex, sem, start, lock, unlock, pend, post, flush, sleep, yield, hold, free, tick, level, outcome, queue, send, receive, word}
+use Rattle.rules.specs.Effect.{effect}
+use Rattle.rules.specs.Refusal.{noRoom, refusals, firstRow}
 use Rattle.rules.specs.Invariant.{Inv}
-use Rattle.record.specs.Record.{view, pack}
+use Rattle.rules.specs.StepLaws.{passed}
+use Rattle.record.specs.Record.{view, pack, packWords, oldestIn}
+use Rattle.record.specs.Whole.{Whole}
+use Rattle.record.specs.Layout.{Stands, packed}
 use Rattle.record.specs.SoundRecord.{soundOf}
-use Rattle.record.specs.StepRecord.{stepFor, outFor, stepOf}
-use Rattle.machine.specs.Machine.{machineStep}
-use Rattle.record.specs.GoodRecord.{Typed}
-use Rattle.record.specs.SoundPackLaws.{sound-view, sound-pack}
-use Rattle.record.specs.ColumnLaws.{chosen}
+use Rattle.record.specs.StepRecord.{stepFor, oldestFor, blockFor, After, afterFor, stepOf}
+use Rattle.record.specs.GoodRecord.{Typed, WordsTyped}
+use Rattle.record.specs.SoundPackLaws.{sound-view, sound-tidy}
+use Rattle.record.specs.TidyLaws.{used-queue, unused-queue}
+use Rattle.record.specs.ViewLaws.{view-queues, view-depth, view-used}
+use Rattle.record.specs.WordsPackLaws.{words-added}
+use Rattle.record.specs.StepStandsLaws.{oldest-back}
+use Rattle.record.specs.DemandRecordLaws.{whole-pack, view-stands, step-of-sound}
+use Rattle.machine.specs.Machine.{depthAt, usedAt, machineStep}
+use Rattle.machine.specs.QueuePartLaws.{Rings}
+use Rattle.machine.specs.Planned.{carried}
 use Rattle.machine.specs.PlainStepLaws.{level-step-pack, outcome-pack, hold-pack, free-pack, start-pack, yield-pack, mutex-pack, sem-pack, task-pack}
 use Rattle.machine.specs.WaitStepLaws.{sleep-pack, pend-pack, post-pack, flush-pack}
 use Rattle.machine.specs.LockStepLaws.{unlock-pack, lock-pack}
 use Rattle.machine.specs.TickStepLaws.{tick-pack}
-use Rattle.record.specs.declared.State.{State}  -- keep
-use Rattle.record.specs.declared.Out.{Out}  -- keep
+use Rattle.machine.specs.SendStepLaws.{full-pack, tail-pack, handed-pack}
+use Rattle.machine.specs.ReceiveStepLaws.{empty-pack, took-pack, swapped-pack}
+use Rattle.machine.specs.QueueSetUpLaws.{word-pack, queue-pack, owned-queue-pack}
+use Rattle.machine.specs.PerformLaws.{isQuiet, Good, carried-ruled, carried-still, carried-quiet, queue-good, full-good, tail-good, handed-good, empty-good, took-good, swapped-good}
 use Rattle.record.specs.declared.Request.{Request}  -- keep
-use Rattle.record.specs.declared.Request.the-variants.{Task, Mutex, Sem, Start, Lock, Unlock, Pend, Post, Flush, Sleep, Yield, Hold, Free, Tick, Level, Outcome}  -- keep
+use Rattle.record.specs.declared.Request.the-variants.{Task, Mutex, Sem, Start, Lock, Unlock, Pend, Post, Flush, Sleep, Yield, Hold, Free, Tick, Level, Outcome, Queue, OwnedQueue, Send, Receive, Word}  -- keep
 use Rattle.rules.specs.State.{State as Model}  -- keep
-use Rattle.rules.specs.Answer.{stepSound}  -- keep
+use Rattle.rules.specs.Answer.{isFormed, stepSound}  -- keep
 
-pub step-pack : (s : Model) → Inv s → (x : Request) → machineStep (pack s) x ≡ outFor (stepSound s (stepFor x))
-unfolding machineStep stepFor
-step-pack s I (Task p) = task-pack s I p
-step-pack s I (Mutex q) = mutex-pack s I q
-step-pack s I (Sem count max) = sem-pack s I count max
-step-pack s I Start = start-pack s I
-step-pack s I (Lock m t) = lock-pack s I m t
-step-pack s I (Unlock m) = unlock-pack s I m
-step-pack s I (Pend j t) = pend-pack s I j t
-step-pack s I (Post j) = post-pack s I j
-step-pack s I (Flush j) = flush-pack s I j
-step-pack s I (Sleep t) = sleep-pack s I t
-step-pack s I Yield = yield-pack s I
-step-pack s I Hold = hold-pack s I
-step-pack s I Free = free-pack s I
-step-pack s I Tick = tick-pack s I
-step-pack s I (Level i) = level-step-pack s I i
-step-pack s I (Outcome i) = outcome-pack s I i
+module _ (s : Model) (I : Inv s) (os b : List ℕ) (S : Stands os b (s .tables .queues)) where
+  -- the step of a request on the packed state, once its words are moved
+  abbrev gives : Request → List ℕ → After
+  gives x m = carried (packed os b s) m (machineStep (pack os s) x (length m) (length b) (packWords (s .tables)))
 
--- so on every sound record the machine answers what `step` is defined to answer
-pub sound-step : (k : State) → Typed k → soundOf k ≡ true → (x : Request) → machineStep k x ≡ stepOf k x
-unfolding stepOf
-sound-step k T sound x = ap (λ z. machineStep z x) (sym (sound-pack k sound T)) ∙ (step-pack (view k) (sound-view k sound) x ∙ sym (chosen _ _ _ sound))
+  -- an accepted send: there is a caller, the queue exists, and the message is as wide as its messages are
+  module _ (q t : ℕ) (m : List ℕ) where
+    sent-by : {A : Type 0} → firstRow (refusals s (send q t m)) ≡ none
+        → (q < queueCount (s .tables) → length m ≡ widthOf (s .tables) q → (r : ℕ) → s .running ≡ some r → A) → A
+    unfolding refusals
+    sent-by e f =
+        let b₂ = passed _ _ (passed _ _ e .1) in
+        let c = passed _ _ (b₂ .1) in
+        let n = or-none _ _ (passed _ _ (c .1) .0) in
+        let r = some-true (s .running) (not-false (someb (s .running)) (b₂ .0)) in
+        f (leb-false (queueCount (s .tables)) q (c .0)) (eqb-true (length m) (widthOf (s .tables) q) (not-false _ (n .1))) (r .0) (r .1)
+
+    send-carried : gives (Send q t) m ≡ afterFor (packed os b s) (send q t m) (stepSound s (send q t m))
+    unfolding machineStep
+    send-carried = elim (which (noRoom s q)) [
+      | inl full ↦ carried-ruled s I os b S os _ (send q t m) m (full-pack os s I q t m full) (λ e. sent-by e (λ low wide r run. full-good s I os b S q low t m wide r run full))
+      | inr gap ↦ go gap (bestWaiter (s .tables) (messageIn q)) refl
+    ]
+      where
+        go : noRoom s q ≡ false → (o : Option ℕ) → bestWaiter (s .tables) (messageIn q) ≡ o → gives (Send q t) m ≡ afterFor (packed os b s) (send q t m) (stepSound s (send q t m))
+        go gap none best = carried-ruled s I os b S os _ (send q t m) m (tail-pack os s I q t m gap best) (λ e. sent-by e (λ low wide r run. tail-good s I os b S q low t m wide r run gap best))
+        go gap (some w) best = carried-ruled s I os b S os _ (send q t m) m (handed-pack os s I q t m gap w best) (λ e. sent-by e (λ low wide r run. handed-good s I os b S q low t m wide r run gap w best))
+
+  -- an accepted receive: there is a caller, and the queue exists
+  module _ (q t : ℕ) (m : List ℕ) where
+    received-by : {A : Type 0} → firstRow (refusals s (receive q t)) ≡ none → (q < queueCount (s .tables) → (r : ℕ) → s .running ≡ some r → A) → A
+    unfolding refusals
+    received-by e f =
+        let b₂ = passed _ _ (passed _ _ e .1) in
+        let c = passed _ _ (b₂ .1) in
+        let r = some-true (s .running) (not-false (someb (s .running)) (b₂ .0)) in
+        f (leb-false (queueCount (s .tables)) q (c .0)) (r .0) (r .1)
+
+    receive-carried : (l : List (List ℕ)) → messagesOf (s .tables) q ≡ l → (o : Option ℕ) → bestWaiter (s .tables) (roomIn q) ≡ o
+        → gives (Receive q t) m ≡ afterFor (packed os b s) (receive q t) (stepSound s (receive q t))
+    unfolding machineStep
+    receive-carried [] e o best = carried-ruled s I os b S os _ (receive q t) m (empty-pack os s I q t e) (λ f. received-by f (λ low r run. empty-good s I os b S q low t m r run e))
+    receive-carried (n ∷ ms) e none best = carried-ruled s I os b S _ _ (receive q t) m (took-pack os s I q t n ms e (S .oldest-column) best)
+        (λ f. received-by f (λ low r run. took-good s I os b S q low t m r run n ms e best))
+    receive-carried (n ∷ ms) e (some w) best = carried-ruled s I os b S _ _ (receive q t) m (swapped-pack os s I q t n ms e (S .oldest-column) w best)
+        (λ f. received-by f (λ low r run. swapped-good s I os b S q low t m r run n ms e w best))
+
+  added : (p : ℕ) → firstRow (refusals s (task p)) ≡ none → packWords ((effect s (task p)) .state .tables) ≡ packWords (s .tables)
+  unfolding refusals effect
+  added p e = words-added (s .tables) (I .facts) p (leb-false maxTasks (taskCount (s .tables)) (passed _ _ (passed _ _ (passed _ _ e .1) .1) .0))
+
+  step-carried : (x : Request) (m : List ℕ) → gives x m ≡ afterFor (packed os b s) (stepFor x m) (stepSound s (stepFor x m))
+  unfolding machineStep stepFor oldestFor blockFor isQuiet
+  step-carried (Task p) m = carried-still s I os b S (task p) m (λ n. (oldest-back s I os b S, refl)) (added p) (task-pack os s I p)
+  step-carried (Mutex q) m = carried-quiet s I os b S (mutex q) m refl (λ n. (oldest-back s I os b S, refl)) (mutex-pack os s I q)
+  step-carried (Sem n max) m = carried-quiet s I os b S (sem n max) m refl (λ n. (oldest-back s I os b S, refl)) (sem-pack os s I n max)
+  step-carried Start m = carried-quiet s I os b S start m refl (λ n. (oldest-back s I os b S, refl)) (start-pack os s I)
+  step-carried (Lock j t) m = carried-quiet s I os b S (lock j t) m refl (λ n. (oldest-back s I os b S, refl)) (lock-pack os s I j t)
+  step-carried (Unlock j) m = carried-quiet s I os b S (unlock j) m refl (λ n. (oldest-back s I os b S, refl)) (unlock-pack os s I j)
+  step-carried (Pend k t) m = carried-quiet s I os b S (pend k t) m refl (λ n. (oldest-back s I os b S, refl)) (pend-pack os s I k t)
+  step-carried (Post k) m = carried-quiet s I os b S (post k) m refl (λ n. (oldest-back s I os b S, refl)) (post-pack os s I k)
+  step-carried (Flush k) m = carried-quiet s I os b S (flush k) m refl (λ n. (oldest-back s I os b S, refl)) (flush-pack os s I k)
+  step-carried (Sleep t) m = carried-quiet s I os b S (sleep t) m refl (λ n. (oldest-back s I os b S, refl)) (sleep-pack os s I t)
+  step-carried Yield m = carried-quiet s I os b S yield m refl (λ n. (oldest-back s I os b S, refl)) (yield-pack os s I)
+  step-carried Hold m = carried-quiet s I os b S hold m refl (λ n. (oldest-back s I os b S, refl)) (hold-pack os s I)
+  step-carried Free m = carried-quiet s I os b S free m refl (λ n. (oldest-back s I os b S, refl)) (free-pack os s I)
+  step-carried Tick m = carried-quiet s I os b S tick m refl (λ n. (oldest-back s I os b S, refl)) (tick-pack os s I)
+  step-carried (Level i) m = carried-quiet s I os b S (level i) m refl (λ n. (oldest-back s I os b S, refl)) (level-step-pack os s I i)
+  step-carried (Outcome i) m = carried-quiet s I os b S (outcome i) m refl (λ n. (oldest-back s I os b S, refl)) (outcome-pack os s I i)
+  step-carried (Queue w d) m = carried-ruled s I os b S _ _ (queue w d none) m (queue-pack os s I (S .oldest-column) (length b) (S .space) w d) (λ e. queue-good s I os b S w d none m)
+  step-carried (OwnedQueue w d o) m = carried-ruled s I os b S _ _ (queue w d (some o)) m (owned-queue-pack os s I (S .oldest-column) (length b) (S .space) w d o) (λ e. queue-good s I os b S w d (some o) m)
+  step-carried (Send q t) m = send-carried q t m
+  step-carried (Receive q t) m = receive-carried q t m (messagesOf (s .tables) q) refl (bestWaiter (s .tables) (roomIn q)) refl
+  step-carried (Word i j) m = carried-quiet s I os b S (word i j) m refl (λ n. (oldest-back s I os b S, refl)) (word-pack os s I i j)
+
+-- so on every sound record the machine, once its words are moved, gives what `step` is defined to give
+pub sound-step : (h : Whole) → Typed (h .state) → WordsTyped (h .words) → soundOf h ≡ true → (x : Request) (m : List ℕ) → isFormed (stepFor x m) ≡ true
+    → carried h m (machineStep (h .state) x (length m) (length (h .block)) (h .words)) ≡ stepOf h x m
+sound-step h T W sound x m formed = subst (λ z. carried z m (machineStep (z .state) x (length m) (length (z .block)) (z .words)) ≡ afterFor z (stepFor x m) (stepSound (view h) (stepFor x m))) (whole-pack h T W sound)
+    (step-carried (view h) (sound-view h sound) (oldestIn (h .state .queues)) (h .block) (view-stands h T W sound) x m) ∙ sym (step-of-sound h T W sound (stepFor x m) formed)
+
+-- the numbers of a sound record's queues are what the steps on them need
+module _ (h : Whole) (T : Typed (h .state)) (sound : soundOf h ≡ true) where
+  none-there : (q : ℕ) → h .state .queues .n ≤ q → usedAt (h .state .queues) q ≡ 0
+  none-there q l = elim (decLt q maxQueues) [
+    | yes i ↦ unused-queue (h .state) (sound-tidy h sound) q l i .no-used
+    | no i ↦ List·getD-eq-default (h .state .queues .used) 0 (omega (arith, T .used-length))
+  ]
+
+  room-in : (q : ℕ) → usedAt (h .state .queues) q ≤ depthAt (h .state .queues) q
+  unfolding view
+  room-in q = elim (decLt q (h .state .queues .n)) [
+    | yes l ↦ omega (
+      arith,
+      sound-view h sound .facts .queues q (omega (arith, view-queues (h .state) (h .words) (h .block) T (sound-tidy h sound))) .room,
+      view-used (h .state) (h .words) (h .block) T (sound-tidy h sound) q l,
+      view-depth (h .state) (h .words) (h .block) T (sound-tidy h sound) q l,
+    )
+    | no l ↦ omega (arith, none-there q (omega arith))
+  ]
+
+  pub sound-rings : Rings (h .state .queues)
+  sound-rings = record { used-in = room-in; oldest-in = λ q l. ltb-true _ _ (and-r _ _ (used-queue (h .state) (sound-tidy h sound) q l)) }

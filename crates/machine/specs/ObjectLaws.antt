@@ -16,7 +16,7 @@ use Rattle.lists.specs.TableLaws.{snoc-default, snoc-last, length-snoc, length-
 use Rattle.chains.specs.Least.{leastLeading}
 use Rattle.rules.specs.Sizes.{taskPlaces, maxMutexes, maxSemaphores, levels}
 use Rattle.rules.specs.Levels.{heirAwaited, ofWait, lends, levelIn, sameAwaited, waitIsFor, awaits}
-use Rattle.rules.specs.Effect.{addTask, addMutex, addSem, give, setCount, beginWait, endWaits, age, ageAll}
+use Rattle.rules.specs.Effect.{setMessages, hands, addTask, addMutex, addSem, give, setCount, beginWait, endWaits, age, ageAll}
 use Rattle.rules.specs.Invariant.{Facts}
 use Rattle.rules.specs.FactsLaws.{wait-ended}
 use Rattle.rules.specs.WaiterLaws.{awaited-self, level-alone}
@@ -26,7 +26,7 @@ use Rattle.record.specs.Record.{kindCode, objectCode, timedCode, dueCode, packT
 use Rattle.machine.specs.Machine.{ownerSet, countSet, taskAdded, mutexAdded, semAdded}
 use Rattle.record.specs.PackLaws.{same-tasks, same-mutexes, same-semaphores}
 use Rattle.record.specs.ColumnLaws.{chosen, pad-default, map-set, map-snoc}
-use Rattle.rules.specs.Tables.{Awaited, mutexOf, semOf, time, Wait, TaskTable, SemTable, Tables, withTasks, withSemaphores, taskCount, mutexCount, semCount, priorityOf, waitOf, ownerOf, kindOf}  -- keep
+use Rattle.rules.specs.Tables.{Awaited, mutexOf, semOf, roomIn, messageIn, time, Wait, TaskTable, SemTable, Tables, withTasks, withSemaphores, taskCount, mutexCount, semCount, priorityOf, waitOf, ownerOf, kindOf}  -- keep
 
 module _ (t : Tables) (F : Facts t) where
   pub owner-set : (m : ℕ) (o : Option ℕ) → m < mutexCount t → ownerSet (packMutexes t) m (idOf o) ≡ packMutexes (give t m o)
@@ -59,7 +59,7 @@ pub level-same : (t t′ : Tables) → ((i : ℕ) → lends t′ i ≡ lends t i
 unfolding levelIn
 level-same t t′ h e i = ap (λ (l : List ℕ). leastLeading (length l) (lends t′) (λ j. getD l j 0) i) e ∙ ap (λ (f : ℕ → Option ℕ). leastLeading (taskCount t) f (priorityOf t) i) (fun-ext h)
 
--- who lends to whom, where mutexes stay as they are
+-- who lends to whom, where mutexes and owners of queues stay as they are
 lends-kept : (t : Tables) (x : TaskTable) (c : SemTable) (i : ℕ) → lends (withTasks (withSemaphores t c) x) i ≡ ofWait (heirAwaited t) (getD (x .waits) i none)
 unfolding lends ofWait heirAwaited
 lends-kept t x c i = go (getD (x .waits) i none)
@@ -67,6 +67,8 @@ lends-kept t x c i = go (getD (x .waits) i none)
     heir : (a : Awaited) → heirAwaited (withTasks (withSemaphores t c) x) a ≡ heirAwaited t a
     heir (mutexOf m) = refl
     heir (semOf k) = refl
+    heir (roomIn q) = refl
+    heir (messageIn q) = refl
     heir time = refl
 
     go : (w : Option Wait) → ofWait (heirAwaited (withTasks (withSemaphores t c) x)) w ≡ ofWait (heirAwaited t) w
@@ -96,6 +98,8 @@ module _ (t : Tables) where
       heir : (a : Awaited) → sameAwaited a (mutexOf m) ≡ false → heirAwaited (give t m o) a ≡ heirAwaited t a
       heir (mutexOf j) e = rw (getD-set-other (t .mutexes .owners) m j o none (λ q. clash (ap (λ z. sameAwaited (mutexOf z) (mutexOf m)) q ∙ awaited-self (mutexOf m)) e)) refl
       heir (semOf k) e = refl
+      heir (roomIn q) e = refl
+      heir (messageIn q) e = refl
       heir time e = refl
 
       go : (w : Option Wait) → waitIsFor w (mutexOf m) ≡ false → ofWait (heirAwaited (give t m o)) w ≡ ofWait (heirAwaited t) w
@@ -105,6 +109,25 @@ module _ (t : Tables) where
   -- semaphores lend nothing
   pub lends-semaphores : (c : SemTable) (i : ℕ) → lends (withSemaphores t c) i ≡ lends t i
   lends-semaphores c i = lends-kept t (t .tasks) c i ∙ sym (lends-kept t (t .tasks) (t .semaphores) i)
+
+  -- messages and held words lend nothing
+  pub lends-messages : (q : ℕ) (ms : List (List ℕ)) (i : ℕ) → lends (setMessages t q ms) i ≡ lends t i
+  unfolding lends ofWait heirAwaited
+  lends-messages q ms i = go (waitOf t i)
+    where
+      heir : (a : Awaited) → heirAwaited (setMessages t q ms) a ≡ heirAwaited t a
+      heir (mutexOf j) = refl
+      heir (semOf k) = refl
+      heir (roomIn j) = refl
+      heir (messageIn j) = refl
+      heir time = refl
+
+      go : (w : Option Wait) → ofWait (heirAwaited (setMessages t q ms)) w ≡ ofWait (heirAwaited t) w
+      go none = refl
+      go (some w) = heir (w .on)
+
+  pub lends-hands : (j : ℕ) (m : List ℕ) (i : ℕ) → lends (hands t j m) i ≡ lends t i
+  lends-hands j m i = lends-kept t ((hands t j m) .tasks) (t .semaphores) i ∙ sym (lends-kept t (t .tasks) (t .semaphores) i)
 
   -- all waits are a tick older
   pub lends-age : (i : ℕ) → lends (ageAll t) i ≡ lends t i

@@ -13,7 +13,7 @@ use Rattle.machine.specs.declared.Order.{Order}  -- keep
 use Rattle.machine.specs.declared.Turn.{Turn}  -- keep
 
 -- settled, and then dispatched
-pub settled-parts : (k : State) (woken : List ℕ) (o : Order) (t : Turn) → o ≡ orderOf (k .tasks) (k .mutexes) (k .ready) woken → t ≡ turnOf (k .started) (o .ready) (o .level) (k .running) (k .hold)
+pub settled-parts : (k : State) (woken : List ℕ) (o : Order) (t : Turn) → o ≡ orderOf (k .tasks) (k .mutexes) (k .queues) (k .ready) woken → t ≡ turnOf (k .started) (o .ready) (o .level) (k .running) (k .hold)
     → putTurn (putOrder k o) t ≡ dispatched (settled k woken)
 unfolding settled dispatched
 settled-parts k woken o t e f = rw (f, e) refl

@@ -183,7 +183,7 @@ settled-level n f ready woken a = rw (keep-all (λ i. eqb (f i) (f i)) ready (λ
     nobody = byId-none n _ (λ i. rw (eq-eqb (f i) (f i) refl) (false-and false (member i ready) refl))
 
 -- levels that the first tasks keep are kept
-module _ (before s : Model) (same-tasks : taskCount (s .tables) ≡ taskCount (before .tables)) (same-levels : (i : ℕ) → i < taskCount (s .tables) → levelIn (s .tables) i ≡ levelOf before i) where
+module _ (o : List ℕ) (before s : Model) (same-tasks : taskCount (s .tables) ≡ taskCount (before .tables)) (same-levels : (i : ℕ) → i < taskCount (s .tables) → levelIn (s .tables) i ≡ levelOf before i) where
   pub levels-kept : levelOf before ≡ levelOf s
   levels-kept = fun-ext (λ i. elim (decLt i (taskCount (s .tables))) [
     | yes h ↦ sym (same-levels i h)
@@ -195,17 +195,17 @@ module _ (before s : Model) (same-tasks : taskCount (s .tables) ≡ taskCount (b
   column-kept = ap (λ n. pad taskPlaces 0 (filled n (levelOf before))) (sym same-tasks) ∙ ap (λ f. pad taskPlaces 0 (filled (taskCount (s .tables)) f)) levels-kept
 
 -- a packed state whose levels are still those of the state before, where nobody became ready and no level changed
-pub unchanged-pack : (before s : Model) → taskCount (s .tables) ≡ taskCount (before .tables) → Asc (levelOf before) (s .ready)
+pub unchanged-pack : (o : List ℕ) (before s : Model) → taskCount (s .tables) ≡ taskCount (before .tables) → Asc (levelOf before) (s .ready)
     → ((i : ℕ) → i < taskCount (s .tables) → levelIn (s .tables) i ≡ levelOf before i)
-    → packWith (levelColumn (before .tables)) s ≡ pack (settle (levelOf before) s [])
+    → packWith o (levelColumn (before .tables)) s ≡ pack o (settle (levelOf before) s [])
 unfolding packWith pack packTasks levelColumn
-unchanged-pack before s e asc lv = ap (λ c. packWith c s) (column-kept before s e lv) ∙ ap (λ l. putReady (pack s) (taskListOf l)) (sym still)
+unchanged-pack o before s e asc lv = ap (λ c. packWith o c s) (column-kept o before s e lv) ∙ ap (λ l. putReady (pack o s) (taskListOf l)) (sym still)
   where
     still : settledReady (taskCount (s .tables)) (levelOf before) (levelOf s) (s .ready) [] ≡ s .ready
-    still = settled-same (taskCount (s .tables)) (levelOf before) (levelOf s) (s .ready) (λ i m. ap (λ f. f i) (sym (levels-kept before s e lv))) asc
+    still = settled-same (taskCount (s .tables)) (levelOf before) (levelOf s) (s .ready) (λ i m. ap (λ f. f i) (sym (levels-kept o before s e lv))) asc
 
 -- settling such a state
-module _ (before s : Model) (woken flags : List ℕ) (F : Facts (s .tables)) (same-tasks : taskCount (s .tables) ≡ taskCount (before .tables)) (P : Places s woken)
+module _ (o : List ℕ) (before s : Model) (woken flags : List ℕ) (F : Facts (s .tables)) (same-tasks : taskCount (s .tables) ≡ taskCount (before .tables)) (P : Places s woken)
     (asc : Asc (levelOf before) (s .ready)) (flagged : (i : ℕ) → eqb (keyOf flags i) 1 ≡ member i woken) where
   settled-list : resettled (taskListOf (s .ready)) (levelColumn (before .tables)) (levelColumn (s .tables)) flags (taskCount (s .tables))
       ≡ taskListOf (settledReady (taskCount (s .tables)) (levelOf before) (levelOf s) (s .ready) woken)
@@ -216,12 +216,12 @@ module _ (before s : Model) (woken flags : List ℕ) (F : Facts (s .tables)) (sa
       ∙ ap (λ f. taskListOf (settledReady (taskCount (s .tables)) f (keyOf (levelColumn (s .tables))) (s .ready) woken)) (key-levels (before .tables))
       ∙ ap (λ f. taskListOf (settledReady (taskCount (s .tables)) (levelOf before) f (s .ready) woken)) (key-levels (s .tables))
 
-  pub settle-pack : settled (packWith (levelColumn (before .tables)) s) flags ≡ pack (settle (levelOf before) s woken)
+  pub settle-pack : settled (packWith o (levelColumn (before .tables)) s) flags ≡ pack o (settle (levelOf before) s woken)
   unfolding settled orderOf packWith pack packTasks levelColumn
-  settle-pack = ap made (new-levels s F (levelColumn (before .tables))) ∙ ap (λ q. putReady (pack s) q) settled-list
+  settle-pack = ap made (new-levels s F o (levelColumn (before .tables))) ∙ ap (λ q. putReady (pack o s) q) settled-list
     where
       k : State
-      k = packWith (levelColumn (before .tables)) s
+      k = packWith o (levelColumn (before .tables)) s
 
       made : List ℕ → State
       made new = putReady (putTasks k (putLevel (k .tasks) new)) (resettled (k .ready) (k .tasks .level) new flags (k .tasks .n))
@@ -233,7 +233,7 @@ module _ (before s : Model) (woken flags : List ℕ) (F : Facts (s .tables)) (sa
         ∙ settled-level (taskCount (s .tables)) (levelOf s) (s .ready) woken (asc-change (levelOf before) (levelOf s) (s .ready) (λ y m. ap (λ f. f y) unmoved) asc)
       where
         unmoved : levelOf before ≡ levelOf s
-        unmoved = levels-kept before s same-tasks same-levels
+        unmoved = levels-kept o before s same-tasks same-levels
 
     lined-list : insertedFlagged (taskListOf (s .ready)) (levelColumn (s .tables)) flags (taskCount (s .tables)) ≡ taskListOf (settledReady (taskCount (s .tables)) (levelOf before) (levelOf s) (s .ready) woken)
     lined-list =
@@ -255,6 +255,6 @@ module _ (before s : Model) (woken flags : List ℕ) (F : Facts (s .tables)) (sa
           length-insertAll (levelOf s) (byId (taskCount (s .tables)) (λ i. member i woken)) (s .ready),
         )
 
-    pub lined-pack : lined (packWith (levelColumn (before .tables)) s) flags ≡ pack (settle (levelOf before) s woken)
+    pub lined-pack : lined (packWith o (levelColumn (before .tables)) s) flags ≡ pack o (settle (levelOf before) s woken)
     unfolding lined packWith pack packTasks levelColumn
-    lined-pack = ap (λ lv. lined (packWith lv s) flags) (column-kept before s same-tasks same-levels) ∙ ap (λ q. putReady (pack s) q) lined-list
+    lined-pack = ap (λ lv. lined (packWith o lv s) flags) (column-kept o before s same-tasks same-levels) ∙ ap (λ q. putReady (pack o s) q) lined-list

@@ -21,8 +21,9 @@ use Rattle.rules.specs.Sound.{waitCount}
 use Rattle.rules.specs.Invariant.{Facts, Inv}
 use Rattle.rules.specs.FactsLaws.{wait-ended, facts-end, facts-age}
 use Rattle.rules.specs.WaiterLaws.{due-waits, not-due, outcome-due, places-end}
+use Rattle.machine.specs.Planned.{planFor}
+use Rattle.moves.specs.declared.Move.the-variants.{Nothing}  -- keep
 use Rattle.record.specs.Record.{dueAt, kindCode, objectCode, timedCode, dueCode, packTasks, packMutexes, packSemaphores, pack}
-use Rattle.record.specs.StepRecord.{outFor}
 use Rattle.record.specs.Setters.{putLevel}
 use Rattle.machine.specs.Machine.{dueFlag, anyFlag, settled, dispatched, woke, answerIn, tickStep}
 use Rattle.record.specs.PackLaws.{levelColumn, packWith}
@@ -31,7 +32,7 @@ use Rattle.machine.specs.FlagLaws.{Flags, flag-one, no-flag}
 use Rattle.machine.specs.WaitLaws.{due-kind, aged-code, aged-kind, aged-object, aged-timed, due-flags}
 use Rattle.machine.specs.EffectLaws.{member-ended, woke-pack}
 use Rattle.machine.specs.ObjectLaws.{level-same, lends-age}
-use Rattle.machine.specs.RowLaws.{ruled, by-rows, on-accept, on-started}
+use Rattle.machine.specs.RowLaws.{still, ruled, by-rows, on-accept, on-started}
 use Rattle.machine.specs.FinishLaws.{quiet-pack, settled-finish}
 use Rattle.record.specs.declared.State.{State}  -- keep
 use Rattle.record.specs.declared.Tasks.{Tasks}  -- keep
@@ -52,6 +53,7 @@ end-nobody t p out h = λ i. withTasks t (record {
   priorities = t .tasks .priorities;
   outcomes = edit-same (λ j x. cond (p j) (out j) x) (t .tasks .outcomes) (λ j x. skipped _ _ _ (h j)) i;
   waits = edit-same (λ j x. cond (p j) none x) (t .tasks .waits) (λ j x. skipped _ _ _ (h j)) i;
+  words = t .tasks .words;
   waiting = keep-all (λ j. not (p j)) (t .tasks .waiting) (λ y m. ap not (h y)) i;
 })
 
@@ -79,18 +81,18 @@ module _ (t : Tables) (F : Facts t) where
       aged-columns k e f g h = rw (e, f, g, h) refl
 
 -- a clock that goes on
-aged-pack : (s : Model) (l : List ℕ) → Facts (s .tables) → ((i : ℕ) → due (s .tables) i ≡ false)
-    → putClock (packWith l s) (dueAt (s .clock) 1) ≡ packWith l (withClock (withTables s (ageAll (s .tables))) ((s .clock + 1) % wordSize))
+aged-pack : (os : List ℕ) (s : Model) (l : List ℕ) → Facts (s .tables) → ((i : ℕ) → due (s .tables) i ≡ false)
+    → putClock (packWith os l s) (dueAt (s .clock) 1) ≡ packWith os l (withClock (withTables s (ageAll (s .tables))) ((s .clock + 1) % wordSize))
 unfolding pack packWith packMutexes packSemaphores
-aged-pack s l F later = ap (λ z. putClock (putTasks (packWith l s) z) (dueAt (s .clock) 1)) (tasks-aged (s .tables) F (s .clock) l later)
+aged-pack os s l F later = ap (λ z. putClock (putTasks (packWith os l s) z) (dueAt (s .clock) 1)) (tasks-aged (s .tables) F (s .clock) l later)
 
-tick-done : (s : Model) (k : State) → k ≡ pack (dispatch (settle (levelOf s) ((tickOf s) .state) ((tickOf s) .woken))) → answerIn k 0 0 ≡ ruled s tick []
+tick-done : (os : List ℕ) (s : Model) (k : State) → k ≡ pack os (dispatch (settle (levelOf s) ((tickOf s) .state) ((tickOf s) .woken))) → answerIn k 0 0 ≡ ruled (still os) s tick []
 unfolding tickOf effect
-tick-done s k q = on-accept s tick (tickOf s) k refl refl q
+tick-done os s k q = on-accept (still os) s tick (tickOf s) k refl refl q
 
-module _ (s : Model) (I : Inv s) where
+module _ (os : List ℕ) (s : Model) (I : Inv s) where
   abbrev flags : List ℕ
-  flags = filled taskPlaces (dueFlag ((pack s) .tasks) ((pack s) .clock))
+  flags = filled taskPlaces (dueFlag ((pack os s) .tasks) ((pack os s) .clock))
 
   abbrev expired : Tables
   expired = endWaits (s .tables) (due (s .tables)) (λ i. outcomeDue (waitOf (s .tables) i))
@@ -100,7 +102,7 @@ module _ (s : Model) (I : Inv s) where
   flags-due = due-flags (s .tables) (I .facts) (s .clock) (I .clock-in)
 
   wide : length flags ≡ taskPlaces
-  wide = length-filled taskPlaces (dueFlag ((pack s) .tasks) ((pack s) .clock))
+  wide = length-filled taskPlaces (dueFlag ((pack os s) .tasks) ((pack os s) .clock))
 
   named : (i : ℕ) → due (s .tables) i ≡ true → waitCount (waitOf (s .tables) i) ≡ 1
   named i e = due-waits (waitOf (s .tables) i) e
@@ -113,13 +115,13 @@ module _ (s : Model) (I : Inv s) where
       (by-test (λ (w : Option Wait). isDue w ≡ false) (due (s .tables) i) (λ e. not-due) (λ e. e))
 
   -- some waits are due
-  due-finish : dispatched (settled (putClock (woke (pack s) flags granted timedOut) (dueAt (s .clock) 1)) flags) ≡ pack (dispatch (settle (levelOf s) ((tickOf s) .state) ((tickOf s) .woken)))
+  due-finish : dispatched (settled (putClock (woke (pack os s) flags granted timedOut) (dueAt (s .clock) 1)) flags) ≡ pack os (dispatch (settle (levelOf s) ((tickOf s) .state) ((tickOf s) .woken)))
   unfolding tickOf
   due-finish =
-      ap (λ z. dispatched (settled (putClock z (dueAt (s .clock) 1)) flags)) (woke-pack s (I .facts) (due (s .tables)) named flags flags-due
+      ap (λ z. dispatched (settled (putClock z (dueAt (s .clock) 1)) flags)) (woke-pack os s (I .facts) (due (s .tables)) named flags flags-due
       (λ i. outcomeDue (waitOf (s .tables) i)) granted timedOut (λ i e. due-kind (waitOf (s .tables) i) e))
-      ∙ ap (λ z. dispatched (settled z flags)) (aged-pack (withTables s expired) (levelColumn (s .tables)) expired-facts later)
-      ∙ settled-finish s I (withClock (withTables s (ageAll expired)) ((s .clock + 1) % wordSize)) (ended (s .tables) (due (s .tables))) (facts-age expired later expired-facts) refl
+      ∙ ap (λ z. dispatched (settled z flags)) (aged-pack os (withTables s expired) (levelColumn (s .tables)) expired-facts later)
+      ∙ settled-finish os s I (withClock (withTables s (ageAll expired)) ((s .clock + 1) % wordSize)) (ended (s .tables) (due (s .tables))) (facts-age expired later expired-facts) refl
       (places-end s (ageAll expired) (due (s .tables)) refl refl (I .places)) (I .ascending) flags
       (λ i. flag-one flags (due (s .tables)) flags-due i ∙ sym (member-ended (s .tables) (I .facts) (due (s .tables)) named i))
 
@@ -127,19 +129,19 @@ module _ (s : Model) (I : Inv s) where
   nobody-due : anyFlag flags ≡ false → (i : ℕ) → due (s .tables) i ≡ false
   nobody-due e i = sym (flag-one flags (due (s .tables)) flags-due i) ∙ no-flag flags wide e i
 
-  still-finish : ((i : ℕ) → due (s .tables) i ≡ false) → putClock (pack s) (dueAt (s .clock) 1) ≡ pack (dispatch (settle (levelOf s) ((tickOf s) .state) ((tickOf s) .woken)))
+  still-finish : ((i : ℕ) → due (s .tables) i ≡ false) → putClock (pack os s) (dueAt (s .clock) 1) ≡ pack os (dispatch (settle (levelOf s) ((tickOf s) .state) ((tickOf s) .woken)))
   unfolding tickOf pack packTasks packWith levelColumn
-  still-finish none-due = aged-pack s (levelColumn (s .tables)) (I .facts) none-due
-      ∙ quiet-pack s I (ageAll (s .tables)) ((s .clock + 1) % wordSize) (s .hold) (facts-age (s .tables) none-due (I .facts)) refl refl
+  still-finish none-due = aged-pack os s (levelColumn (s .tables)) (I .facts) none-due
+      ∙ quiet-pack os s I (ageAll (s .tables)) ((s .clock + 1) % wordSize) (s .hold) (facts-age (s .tables) none-due (I .facts)) refl refl
       (level-same (s .tables) (ageAll (s .tables)) (lends-age (s .tables)) refl) (λ z. z)
-      ∙ ap (λ t. pack (dispatch (settle (levelOf s) (withClock (withTables s (ageAll t)) ((s .clock + 1) % wordSize)) [])))
+      ∙ ap (λ t. pack os (dispatch (settle (levelOf s) (withClock (withTables s (ageAll t)) ((s .clock + 1) % wordSize)) [])))
       (sym (end-nobody (s .tables) (due (s .tables)) (λ i. outcomeDue (waitOf (s .tables) i)) none-due))
-      ∙ ap (λ w. pack (dispatch (settle (levelOf s) (withClock (withTables s (ageAll expired)) ((s .clock + 1) % wordSize)) w)))
+      ∙ ap (λ w. pack os (dispatch (settle (levelOf s) (withClock (withTables s (ageAll expired)) ((s .clock + 1) % wordSize)) w)))
       (sym (keep-none (due (s .tables)) (s .tables .tasks .waiting) (λ y m. none-due y)))
 
-  pub tick-pack : tickStep (pack s) ≡ outFor (stepSound s tick)
+  pub tick-pack : tickStep (pack os s) ≡ planFor os Nothing (stepSound s tick)
   unfolding tickStep pack refusals effect
-  tick-pack = by-rows s tick (on-started s I tick _ (λ on. elim (which (anyFlag flags)) [
-    | inl e ↦ chosen _ _ _ e ∙ tick-done s _ due-finish
-    | inr e ↦ skipped _ _ _ e ∙ tick-done s _ (still-finish (nobody-due e))
+  tick-pack = by-rows os s tick (on-started (still os) s I tick _ (λ on. elim (which (anyFlag flags)) [
+    | inl e ↦ chosen _ _ _ e ∙ tick-done os s _ due-finish
+    | inr e ↦ skipped _ _ _ e ∙ tick-done os s _ (still-finish (nobody-due e))
   ]))

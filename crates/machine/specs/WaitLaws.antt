@@ -1,5 +1,6 @@
 -- Waits of the packed tables: their codes, their flags, the best waiter, and the chain of a mutex.
 use mathlib.Core.Path.{_≡_, refl, ap, sym, _∙_, fun-ext}
+use mathlib.Core.List.{List}
 use mathlib.Core.Bool.{Bool, true, false, cond}
 use mathlib.Core.Option.{Option, none, some}
 use Prim.Native.Nat.{ℕ, _+_, _%_, _≤_, _<_}
@@ -22,13 +23,13 @@ use Rattle.task_lists.specs.TaskListLaws.{items-taskListOf}
 use Rattle.walks.specs.Walk.{taskAt, nextIn, chainFrom}
 use Rattle.walks.specs.WalkLaws.{walk-ext}
 use Rattle.record.specs.Record.{ticksLeft, leftCode, kindCode, objectCode, timedCode, dueCode, packTasks, pack}
-use Rattle.record.specs.Reads.{ownerAt, nextAt}
-use Rattle.machine.specs.Machine.{dueNow, dueFlag, waitsOn, waiterFlag, bestAt}
+use Rattle.record.specs.Reads.{queueOwnerAt, ownerAt, nextAt}
+use Rattle.machine.specs.Machine.{ownersFrom, dueNow, dueFlag, waitsOn, waiterFlag, bestAt}
 use Rattle.record.specs.PackLaws.{ticks-back}
-use Rattle.record.specs.ReadLaws.{kind-read, object-read, timed-read, due-read, level-read, owner-read, owner-back, next-pack}
+use Rattle.record.specs.ReadLaws.{kind-read, object-read, timed-read, due-read, level-read, owner-read, owner-back, queue-owner-read, queue-owner-back, next-pack}
 use Rattle.machine.specs.FlagLaws.{Flags}
 use Rattle.rules.specs.State.{State as Model, levelOf}  -- keep
-use Rattle.rules.specs.Tables.{awaitedKind, awaitedObject, Tables, Wait, Awaited, mutexOf, semOf, time, taskCount, waitOf, kindOf, ownerOf}  -- keep
+use Rattle.rules.specs.Tables.{awaitedKind, awaitedObject, Tables, Wait, Awaited, mutexOf, semOf, roomIn, messageIn, time, taskCount, waitOf, kindOf, ownerOf}  -- keep
 
 -- the code of a test
 abbrev bit : Bool → ℕ
@@ -39,6 +40,8 @@ waits-code : (a : Awaited) → eqb 0 (awaitedKind a) ≡ false
 unfolding awaitedKind
 waits-code (mutexOf m) = refl
 waits-code (semOf k) = refl
+waits-code (roomIn q) = refl
+waits-code (messageIn q) = refl
 waits-code time = refl
 
 coded-wait : (w : Option Wait) (a : Awaited) → eqb (kindCode w) (awaitedKind a) and eqb (objectCode w) (awaitedObject a) ≡ waitIsFor w a
@@ -117,9 +120,9 @@ module _ (t : Tables) (F : Facts t) where
     due-flags h = flags-of (dueFlag (packTasks t c) c) isDue refl (λ i. rw (timed-read t c i, due-read t c i) (due-code c (waitOf t i) h (F .timed i)))
 
 -- "the best waiter", over the packed tables
-pub best-pack : (s : Model) (a : Awaited) → bestAt (pack s) (awaitedKind a) (awaitedObject a) ≡ idOf (bestWaiter (s .tables) a)
+pub best-pack : (o : List ℕ) (s : Model) (a : Awaited) → bestAt (pack o s) (awaitedKind a) (awaitedObject a) ≡ idOf (bestWaiter (s .tables) a)
 unfolding bestOf bestWaiter waitersOf pack
-best-pack s a = rw (
+best-pack o s a = rw (
   items-taskListOf (s .tables .tasks .waiting),
   fun-ext (level-read (s .tables) (s .clock)),
   fun-ext (λ i. test (kind-read (s .tables) (s .clock) i) (object-read (s .tables) (s .clock) i) ∙ coded-wait (waitOf (s .tables) i) a),
@@ -128,9 +131,18 @@ best-pack s a = rw (
     test : {x y u v : ℕ} → x ≡ u → y ≡ v → eqb x (awaitedKind a) and eqb y (awaitedObject a) ≡ eqb u (awaitedKind a) and eqb v (awaitedObject a)
     test e f = rw (e, f) refl
 
--- the chain of a mutex
-module _ (s : Model) (F : Facts (s .tables)) where
-  pub chain-pack : (m : ℕ) → chainFrom (filled taskPlaces (nextAt ((pack s) .tasks) ((pack s) .mutexes))) (ownerAt ((pack s) .mutexes) m) ((pack s) .tasks .n) ≡ chainOf (s .tables) (mutexOf m)
-  unfolding chainOf pack packTasks ownerAwaited
-  chain-pack m = walk-ext (nextIn (filled taskPlaces (nextAt ((pack s) .tasks) ((pack s) .mutexes)))) (next (s .tables)) (next-pack s F) (taskCount (s .tables)) (taskAt (ownerAt ((pack s) .mutexes) m))
-      ∙ ap (walk (taskCount (s .tables)) (next (s .tables))) (ap taskAt (owner-read (s .tables) m) ∙ owner-back (s .tables) F m)
+-- the chain of what is awaited, from its owner on
+module _ (o : List ℕ) (s : Model) (F : Facts (s .tables)) where
+  chain-from : (a : Awaited) (x : ℕ) → taskAt x ≡ ownerAwaited (s .tables) a
+      → chainFrom (filled taskPlaces (nextAt ((pack o s) .tasks) ((pack o s) .mutexes) ((pack o s) .queues))) x ((pack o s) .tasks .n) ≡ chainOf (s .tables) a
+  unfolding chainOf pack packTasks
+  chain-from a x e = walk-ext (nextIn (filled taskPlaces (nextAt ((pack o s) .tasks) ((pack o s) .mutexes) ((pack o s) .queues)))) (next (s .tables)) (next-pack s F o) (taskCount (s .tables)) (taskAt x)
+      ∙ ap (walk (taskCount (s .tables)) (next (s .tables))) e
+
+  pub chain-pack : (m : ℕ) → ownersFrom ((pack o s) .tasks) ((pack o s) .mutexes) ((pack o s) .queues) (ownerAt ((pack o s) .mutexes) m) ≡ chainOf (s .tables) (mutexOf m)
+  unfolding pack ownerAwaited
+  chain-pack m = chain-from (mutexOf m) (ownerAt ((pack o s) .mutexes) m) (ap taskAt (owner-read (s .tables) m) ∙ owner-back (s .tables) F m)
+
+  pub queue-chain-pack : (q : ℕ) → ownersFrom ((pack o s) .tasks) ((pack o s) .mutexes) ((pack o s) .queues) (queueOwnerAt ((pack o s) .queues) q) ≡ chainOf (s .tables) (roomIn q)
+  unfolding pack ownerAwaited
+  queue-chain-pack q = chain-from (roomIn q) (queueOwnerAt ((pack o s) .queues) q) (ap taskAt (queue-owner-read (s .tables) o q) ∙ queue-owner-back (s .tables) F q)

@@ -30,7 +30,7 @@ module _ (k : State) (m t : ℕ) where
   waits-refused e = rw e refl
 
   module _ (owner links : ℕ) (ring : Bool) (may : eqb (waitRefusal (k .hold) t) 0 ≡ true) (of : owner ≡ ownerAt (k .mutexes) m)
-      (met : links ≡ length (before (k .running) (ownersFrom (k .tasks) (k .mutexes) owner))) (closed : ring ≡ member (k .running) (ownersFrom (k .tasks) (k .mutexes) owner)) where
+      (met : links ≡ length (before (k .running) (ownersFrom (k .tasks) (k .mutexes) (k .queues) owner))) (closed : ring ≡ member (k .running) (ownersFrom (k .tasks) (k .mutexes) (k .queues) owner)) where
     pub waits-round : ring ≡ true → lockWaits k m t ≡ answerIn k 12 links
     unfolding lockWaits mayWait
     waits-round e = rw (may, ← of, ← met, ← closed, e) refl

@@ -1,35 +1,18 @@
 // The steps on mutexes: the refusals in the order of the table, then what the step does.
 ghost use mathlib.Core.Path.{_≡_};
-ghost use lib.ListN.{length};
-ghost use Rattle.lists.specs.Count.{member};
-ghost use Rattle.lists.specs.Order.{before};
-ghost use Rattle.machine.specs.Machine.{ownersFrom, lockStep, unlockStep};
+ghost use Rattle.machine.specs.Machine.{lockStep, unlockStep};
 use record::GRANTED;
-use record::Mutexes;
 use record::NONE;
 use record::ON_MUTEX;
-use record::Out;
+use record::Plan;
 use record::State;
 use record::TASKS;
-use record::Tasks;
 use record::reads;
 use replies::answers;
 use replies::refusals;
-use walks::Found;
-
-// What the walk from a mutex's owner along the owners of what is waited for finds: its end, or the caller.
-fn chain(t: Tasks, m: Mutexes, owner: u8, caller: u8) -> Found
-    ensures { λ r. ⌜ (r .links ≡ length (before caller (ownersFrom t m owner))) × (r .ring ≡ member caller (ownersFrom t m owner)) ⌝ }
-{
-    let waits = t.wait;
-    let objects = t.object;
-    let owners = m.owner;
-    let next = leads::leads_of(&waits, &objects, owners);
-    walks::follow(&next, owner, caller, t.n)
-}
 
 // A free mutex is taken; else the caller waits, unless it may not.
-pub fn lock(mut s: State, m: u32, time: u32) -> Out
+pub fn lock(mut s: State, m: u32, time: u32) -> Plan
     ensures { λ r. ⌜ r ≡ lockStep s m time ⌝ }
 {
     let no = refusals::of_timed(s.started, s.running, s.mutexes.n, m, time);
@@ -51,14 +34,17 @@ pub fn lock(mut s: State, m: u32, time: u32) -> Out
         return answers::answer(s, not_now, 0);
     }
     let t = s.tasks;
-    let f = chain(t, mutexes, owner, s.running);
+    let owners = mutexes.owner;
+    let queues = s.queues;
+    let receivers = queues.owner;
+    let f = leads::chain(t, owners, receivers, owner, s.running);
     if f.ring {
         return answers::answer(s, 12, f.links as u32);
     }
     let mut tasks = waits::begin_wait(t, s.running, ON_MUTEX, j, s.clock, time);
     s.waiting = task_lists::push(s.waiting, s.running);
     let q = s.ready;
-    let order = settle::settle(tasks, mutexes, q, [0u8; TASKS]);
+    let order = settle::settle(tasks, mutexes, receivers, q, [0u8; TASKS]);
     let levels = order.level;
     tasks.level = levels;
     s.tasks = tasks;
@@ -70,7 +56,7 @@ pub fn lock(mut s: State, m: u32, time: u32) -> Out
 }
 
 // Ownership passes to the best waiter; where nobody waits, the mutex becomes free.
-pub fn unlock(mut s: State, m: u32) -> Out
+pub fn unlock(mut s: State, m: u32) -> Plan
     ensures { λ r. ⌜ r ≡ unlockStep s m ⌝ }
 {
     let not_now = refusals::of_caller(s.started, s.running);
@@ -94,8 +80,10 @@ pub fn unlock(mut s: State, m: u32) -> Out
     let t = s.tasks;
     let mut tasks = waits::end_where(t, flags, GRANTED, GRANTED);
     s.waiting = task_lists::keep_flagged(s.waiting, flags, 0);
+    let queues = s.queues;
+    let receivers = queues.owner;
     let q = s.ready;
-    let order = settle::settle(tasks, mutexes, q, flags);
+    let order = settle::settle(tasks, mutexes, receivers, q, flags);
     let levels = order.level;
     tasks.level = levels;
     s.tasks = tasks;

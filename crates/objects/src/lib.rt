@@ -1,8 +1,12 @@
-// Tasks, mutexes and semaphores made, and what is theirs changed.
+// Tasks, mutexes, semaphores and queues made, and what is theirs changed.
+pub mod queues;
+
 ghost use mathlib.Core.Path.{_≡_};
-ghost use Rattle.machine.specs.Machine.{ownerSet, countSet, taskAdded, mutexAdded, semAdded};
+ghost use Rattle.machine.specs.Machine.{ownerSet, countSet, usedSet, oldestSet, taskAdded, mutexAdded, semAdded, queueAdded};
 use record::MUTEXES;
 use record::Mutexes;
+use record::QUEUES;
+use record::Queues;
 use record::SEMAPHORES;
 use record::Semaphores;
 use record::TASKS;
@@ -30,6 +34,30 @@ pub fn set_count(mut c: Semaphores, j: u8, value: u32) -> Semaphores
     }
     c.count[i] = value;
     c
+}
+
+// A queue has another number of messages.
+pub fn set_used(mut x: Queues, q: u8, value: u8) -> Queues
+    ensures { λ r. ⌜ r ≡ usedSet x q value ⌝ }
+{
+    let i = q as usize;
+    if QUEUES <= i {
+        return x;
+    }
+    x.used[i] = value;
+    x
+}
+
+// A queue's oldest message is another.
+pub fn set_oldest(mut x: Queues, q: u8, value: u8) -> Queues
+    ensures { λ r. ⌜ r ≡ oldestSet x q value ⌝ }
+{
+    let i = q as usize;
+    if QUEUES <= i {
+        return x;
+    }
+    x.oldest[i] = value;
+    x
 }
 
 // One task more; a full table stays.
@@ -71,4 +99,19 @@ pub fn add_semaphore(mut c: Semaphores, count: u32, maximum: u32) -> Semaphores
     c.maximum[i] = maximum;
     c.n += 1;
     c
+}
+
+// One queue more; a full table stays.
+pub fn add_queue(mut x: Queues, width: u8, depth: u8, owner: u8) -> Queues
+    ensures { λ r. ⌜ r ≡ queueAdded x width depth owner ⌝ }
+{
+    let i = x.n as usize;
+    if QUEUES <= i {
+        return x;
+    }
+    x.width[i] = width;
+    x.depth[i] = depth;
+    x.owner[i] = owner;
+    x.n += 1;
+    x
 }

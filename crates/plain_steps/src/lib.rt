@@ -1,14 +1,16 @@
-// Yield, hold and free, level, outcome: the refusals in the order of the table, then what the step does.
+// Yield, hold and free, level, outcome, word: the refusals in the order of the table, then what the step does.
 ghost use mathlib.Core.Path.{_≡_};
-ghost use Rattle.machine.specs.Machine.{yieldStep, holdStep, freeStep, levelStep, outcomeStep};
+ghost use lib.ListN.{getD};
+ghost use Rattle.machine.specs.Machine.{yieldStep, holdStep, freeStep, levelStep, outcomeStep, wordStep};
+use record::EIGHT;
 use record::MAX_HOLD;
 use record::NONE;
-use record::Out;
+use record::Plan;
 use record::State;
 use replies::answers;
 use replies::refusals;
 
-pub fn yield_now(mut s: State) -> Out
+pub fn yield_now(mut s: State) -> Plan
     ensures { λ r. ⌜ r ≡ yieldStep s ⌝ }
 {
     let not_now = refusals::of_caller(s.started, s.running);
@@ -30,7 +32,7 @@ pub fn yield_now(mut s: State) -> Out
     answers::answer(s, 0, 0)
 }
 
-pub fn hold(mut s: State) -> Out
+pub fn hold(mut s: State) -> Plan
     ensures { λ r. ⌜ r ≡ holdStep s ⌝ }
 {
     let not_now = refusals::of_caller(s.started, s.running);
@@ -44,7 +46,7 @@ pub fn hold(mut s: State) -> Out
     answers::answer(s, 0, 0)
 }
 
-pub fn free(mut s: State) -> Out
+pub fn free(mut s: State) -> Plan
     ensures { λ r. ⌜ r ≡ freeStep s ⌝ }
 {
     let not_now = refusals::of_caller(s.started, s.running);
@@ -65,7 +67,7 @@ pub fn free(mut s: State) -> Out
     answers::answer(s, 0, 0)
 }
 
-pub fn level(s: State, i: u32) -> Out
+pub fn level(s: State, i: u32) -> Plan
     ensures { λ r. ⌜ r ≡ levelStep s i ⌝ }
 {
     if s.tasks.n as u32 <= i {
@@ -77,7 +79,7 @@ pub fn level(s: State, i: u32) -> Out
     answers::answer(s, 0, v as u32)
 }
 
-pub fn outcome(s: State, task: u32) -> Out
+pub fn outcome(s: State, task: u32) -> Plan
     ensures { λ r. ⌜ r ≡ outcomeStep s task ⌝ }
 {
     if s.tasks.n as u32 <= task {
@@ -87,4 +89,28 @@ pub fn outcome(s: State, task: u32) -> Out
     let outcomes = t.outcome;
     let v = task_lists::key_of(outcomes, task as u8);
     answers::answer(s, 0, v as u32)
+}
+
+// A word of a lent table, or 0 where it has none there.
+fn word_in(words: &[u32], i: usize) -> u32
+    ensures { λ r. ⌜ r ≡ getD (now (words .entry)) i 0 ⌝ }
+{
+    if i < words.len() {
+        return words[i];
+    }
+    0
+}
+
+// A word that a task holds; `words` has eight for each task.
+pub fn word(s: State, task: u32, n: u32, words: &[u32]) -> Plan
+    ensures { λ r. ⌜ r ≡ wordStep s task n (now (words .entry)) ⌝ }
+{
+    if s.tasks.n as u32 <= task {
+        return answers::answer(s, 6, 0);
+    }
+    if EIGHT as u32 <= n {
+        return answers::answer(s, 7, 0);
+    }
+    let v = word_in(words, EIGHT * (task as usize) + (n as usize));
+    answers::answer(s, 0, v)
 }

@@ -1,31 +1,40 @@
--- Demand 3 as a statement over the state record and over `stepOf`, the definition that `step`'s contract cites. DemandRecordLaws proves it.
+-- Demand 3 as a statement over the state record with its words and block, and over `stepBy`, which `step`'s contract cites. DemandRecordLaws proves it.
 use mathlib.Core.Path.{_≡_}
 use mathlib.Core.List.{List, [], _∷_}
-use mathlib.Core.Bool.{Bool, true, cond}
+use mathlib.Core.Bool.{true, cond}
 use mathlib.Core.Option.{Option, none, some}
-use Prim.Native.Nat.{ℕ}
+use Prim.Native.Nat.{ℕ, _*_}
 use lib.Dec.{leb}
-use lib.ListN.{length}
+use lib.ListN.{length, replicate}
 use Rattle.rules.specs.State.{fresh}
-use Rattle.rules.specs.Step.{Step, task, mutex, sem, start, lock, unlock, pend, post, flush, sleep, yield, hold, free, tick, level, outcome}
+use Rattle.rules.specs.Step.{Step, task, mutex, sem, start, lock, unlock, pend, post, flush, sleep, yield, hold, free, tick, level, outcome, queue, send, receive, word}
+use Rattle.rules.specs.Sizes.{taskPlaces, heldWords}
 use Rattle.rules.specs.Log.{logLine, Call}
 use Rattle.rules.specs.History.{Event}
 use Rattle.rules.specs.Demand.{Demand, told}
 use Rattle.walks.specs.Walk.{taskAt}
 use Rattle.record.specs.Record.{view, pack}
-use Rattle.record.specs.SoundRecord.{soundOf}
-use Rattle.record.specs.StepRecord.{numberOf, valueOf, runOf, stays, stepOf}
+use Rattle.record.specs.StepRecord.{numberOf, valueOf, runOf, After, stays, standingIn, stepOf}
+use Rattle.record.specs.Whole.{Whole}
 use Rattle.record.specs.declared.State.{State}  -- keep
-use Rattle.record.specs.declared.Out.{Out}  -- keep
+use Rattle.record.specs.declared.Held.{Held}  -- keep
 use Rattle.record.specs.declared.Request.{Request}  -- keep
-use Rattle.record.specs.declared.Request.the-variants.{Task, Mutex, Sem, Start, Lock, Unlock, Pend, Post, Flush, Sleep, Yield, Hold, Free, Tick, Level, Outcome}  -- keep
+use Rattle.record.specs.declared.Request.the-variants.{Task, Mutex, Sem, Start, Lock, Unlock, Pend, Post, Flush, Sleep, Yield, Hold, Free, Tick, Level, Outcome, Queue, OwnedQueue, Send, Receive, Word}  -- keep
 use Rattle.rules.specs.Answer.{Answer as Ruled}  -- keep
 
 -- "A fresh state is in set-up, with nothing made, clock and hold 0.": its record
 unfoldable pub freshRecord : State
-freshRecord = pack fresh
+freshRecord = pack [] (fresh 0)
 
--- the request of a step
+-- the same as C holds it, with eight words 0 for each task
+unfoldable pub freshHeld : Held
+freshHeld = record { state = freshRecord; words = replicate (heldWords * taskPlaces) 0 }
+
+-- and with whatever block is lent
+unfoldable pub freshWith : List ℕ → Whole
+freshWith block = record { state = freshRecord; words = replicate (heldWords * taskPlaces) 0; block = block }
+
+-- the request of a step, and the message beside it
 unfoldable pub requestFor : Step → Request
 requestFor (task p) = Task p
 requestFor (mutex k) = Mutex k
@@ -43,47 +52,68 @@ requestFor free = Free
 requestFor tick = Tick
 requestFor (level i) = Level i
 requestFor (outcome i) = Outcome i
+requestFor (queue w d none) = Queue w d
+requestFor (queue w d (some o)) = OwnedQueue w d o
+requestFor (send q t m) = Send q t
+requestFor (receive q t) = Receive q t
+requestFor (word i n) = Word i n
+
+unfoldable pub messageFor : Step → List ℕ
+messageFor (task p) = []
+messageFor (mutex k) = []
+messageFor (sem count max) = []
+messageFor start = []
+messageFor (lock m t) = []
+messageFor (unlock m) = []
+messageFor (pend k t) = []
+messageFor (post k) = []
+messageFor (flush k) = []
+messageFor (sleep t) = []
+messageFor yield = []
+messageFor hold = []
+messageFor free = []
+messageFor tick = []
+messageFor (level i) = []
+messageFor (outcome i) = []
+messageFor (queue w d o) = []
+messageFor (send q t m) = m
+messageFor (receive q t) = []
+messageFor (word i n) = []
 
 -- what came back, read as an answer of the rules: number, value, task to run or none, and the state that the record stands for
-unfoldable pub readOut : Out → Ruled
-readOut o = record { state = view (o .state); number = numberOf (o .answer); value = valueOf (o .answer); run = taskAt (runOf (o .answer)) }
-
--- "The task to run is then the running one as it stands; where the state handed in isn't sound, it is none": by what the test says of it
-abbrev pub standingBy : Bool → State → Option ℕ
-standingBy sound k = cond sound (taskAt (k .running)) none
-
-unfoldable pub standingIn : State → Option ℕ
-standingIn k = standingBy (soundOf k) k
+unfoldable pub readOut : After → Ruled
+readOut o = record { state = view (o .whole); number = numberOf (o .answer); value = valueOf (o .answer); run = taskAt (runOf (o .answer)) }
 
 -- "if the line that would report the answer, accepted or not, its LF included, is longer than the lent memory, the answer is 8, value 0,
--- and the step isn't made": k is the record handed in, o what the step gives
-unfoldable pub inMemory : State → Option ℕ → Out → Out
-inMemory k none o = o
-inMemory k (some room) o = cond (leb (length (logLine (readOut o))) room) o (stays k 8 0 (standingIn k))
+-- and the step isn't made": h is what was handed in, o what the step gives
+unfoldable pub inMemory : Whole → Option ℕ → After → After
+inMemory h none o = o
+inMemory h (some room) o = cond (leb (length (logLine (readOut o))) room) o (stays h 8 0 (standingIn h))
 
 -- one call: the step, with a log line in lent memory of some length, or with none
-unfoldable pub callRecord : State → Call → Out
-callRecord k c = inMemory k (c .room) (stepOf k (requestFor (c .made)))
+unfoldable pub callRecord : Whole → Call → After
+callRecord h c = inMemory h (c .room) (stepOf h (requestFor (c .made)) (messageFor (c .made)))
 
--- the events of a list of calls, and the record handed on at its end
-unfoldable pub eventsRecord : State → List Call → List Event
-eventsRecord k [] = []
-eventsRecord k (c ∷ cs) =
-    let o = callRecord k c in
-    record { made = c .made; number = numberOf (o .answer); run = taskAt (runOf (o .answer)) } ∷ eventsRecord (o .state) cs
+-- the events of a list of calls, and what is handed on at its end: "every step gets the block as the last one left it"
+unfoldable pub eventsRecord : Whole → List Call → List Event
+eventsRecord h [] = []
+eventsRecord h (c ∷ cs) =
+    let o = callRecord h c in
+    record { made = c .made; number = numberOf (o .answer); run = taskAt (runOf (o .answer)) } ∷ eventsRecord (o .whole) cs
 
-unfoldable pub afterRecord : State → List Call → State
-afterRecord k [] = k
-afterRecord k (c ∷ cs) = afterRecord ((callRecord k c) .state) cs
+unfoldable pub afterRecord : Whole → List Call → Whole
+afterRecord h [] = h
+afterRecord h (c ∷ cs) = afterRecord ((callRecord h c) .whole) cs
 
 -- what a further call is answered
-unfoldable pub answerRecord : State → Call → Ruled
-answerRecord k c = readOut (callRecord k c)
+unfoldable pub answerRecord : Whole → Call → Ruled
+answerRecord h c = readOut (callRecord h c)
 
--- the theorem, which holds of every sound record k: over every list of calls from it; it tells what the state that it stands for tells
-abbrev pub Demand-3-record-from : State → Type 0
-Demand-3-record-from k = (cs : List Call) → (told (view k) (eventsRecord k cs)) .started ≡ true → Demand (told (view k) (eventsRecord k cs)) (answerRecord (afterRecord k cs))
+-- the theorem, which holds of every sound record h with its words and block: over every list of calls from it; it tells what the state that it stands
+-- for tells
+abbrev pub Demand-3-record-from : Whole → Type 0
+Demand-3-record-from h = (cs : List Call) → (told (view h) (eventsRecord h cs)) .started ≡ true → Demand (told (view h) (eventsRecord h cs)) (answerRecord (afterRecord h cs))
 
--- and from the fresh record
+-- and from the fresh record, with any block
 abbrev pub Demand-3-record : Type 0
-Demand-3-record = Demand-3-record-from freshRecord
+Demand-3-record = (block : List ℕ) → Demand-3-record-from (freshWith block)

@@ -1,4 +1,5 @@
--- Demand 3 holds of the record: each call on the packing of a sound state is the packed call of the rules. And a refusal changes no record.
+-- Demand 3 holds of the record with its words and block: each call on the packing of a sound state, with a block that holds its messages, is the packed
+-- call of the rules. And a refusal changes nothing.
 use mathlib.Core.Path.{_≡_, refl, ap, sym, _∙_, fun-ext, subst}
 use mathlib.Core.List.{List, [], _∷_}
 use mathlib.Core.Bool.{Bool, true, false, cond}
@@ -6,41 +7,48 @@ use mathlib.Core.Logic.{_⊎_, inl, inr}
 use mathlib.Core.Option.{Option, none, some}
 use Prim.Native.Nat.{ℕ, _≤_, _<_}
 use native.Mathlib.Omega.{arith}
-use lib.Dec.{leb}
+use lib.Dec.{leb, eqb}
 use lib.ListN.{length}
-use Rattle.lists.specs.TestLaws.{which, by-test, and-l}
-use Rattle.rules.specs.Tables.{mutexOf}
+use borrow.Author.Tests.{ne-eqb}
+use Rattle.lists.specs.TestLaws.{which, by-test}
+use Rattle.rules.specs.Sizes.{maxQueues}
+use Rattle.rules.specs.Tables.{mutexOf, roomIn}
 use Rattle.rules.specs.Levels.{linksOf}
-use Rattle.rules.specs.Step.{Step, task, mutex, sem, start, lock, unlock, pend, post, flush, sleep, yield, hold, free, tick, level, outcome}
+use Rattle.rules.specs.Step.{Step, task, mutex, sem, start, lock, unlock, pend, post, flush, sleep, yield, hold, free, tick, level, outcome, queue, send, receive, word}
 use Rattle.rules.specs.Refusal.{Row, refusals, firstRow}
 use Rattle.rules.specs.Log.{logLine, withRoom, Call, inRoom, call}
 use Rattle.rules.specs.Invariant.{Inv}
 use Rattle.rules.specs.StepLaws.{step-inv, fresh-inv}
 use Rattle.rules.specs.SoundLaws.{inv-sound}
 use Rattle.rules.specs.Demand.{eventOf, events, after}
-use Rattle.rules.specs.RefusalLaws.{call-by, refused-unchanged, sound-stands}
+use Rattle.rules.specs.RefusalLaws.{call-by, refused-unchanged}
+use Rattle.rules.specs.RefusalLaws as R
 use Rattle.rules.specs.DemandLaws.{call-inv, demand-3-from}
-use Rattle.rules.specs.LinkLaws.{lock-links}
-use Rattle.task_lists.specs.TaskList.{noId, idOf}
+use Rattle.rules.specs.LinkLaws.{lock-links, send-links}
+use Rattle.task_lists.specs.TaskList.{noId, taskListOf, idOf}
 use Rattle.walks.specs.Walk.{taskAt}
-use Rattle.record.specs.Record.{viewTables, view, pack}
-use Rattle.record.specs.SoundRecord.{tidyb, soundOf}
-use Rattle.record.specs.StepRecord.{stepFor, numberOf, valueOf, runOf, answerFor, outFor, stays, stepOf}
-use Rattle.record.specs.GoodRecord.{Typed}
+use Rattle.record.specs.Record.{viewTables, view, packTasks, packMutexes, packSemaphores, packQueues, pack, joined, packWords, oldestIn}
+use Rattle.lists.specs.Table.{pad, filled}
+use Rattle.record.specs.Whole.{Whole, whole}
+use Rattle.record.specs.Layout.{Stands, packed}
+use Rattle.record.specs.SoundRecord.{soundOf}
+use Rattle.record.specs.StepRecord.{stepFor, numberOf, valueOf, runOf, answerFor, oldestFor, blockFor, After, afterFor, stays, standingIn, stepBy, stepOf}
+use Rattle.record.specs.GoodRecord.{Typed, WordsTyped}
 use Rattle.record.specs.TidyLaws.{running-id}
 use Rattle.record.specs.PackLaws.{id-back}
-use Rattle.record.specs.SoundPackLaws.{view-pack, pack-sound, pack-typed, sound-view, sound-pack}
-use Rattle.record.specs.ColumnLaws.{chosen}
-use Rattle.record.specs.DemandRecord.{freshRecord, requestFor, readOut, standingIn, inMemory, callRecord, eventsRecord, afterRecord, answerRecord, Demand-3-record-from, Demand-3-record}
+use Rattle.record.specs.WordsPackLaws.{words-typed}
+use Rattle.record.specs.SoundPackLaws.{view-pack, pack-sound, pack-typed, sound-view, sound-tidy, sound-pack, sound-words, sound-stands}
+use Rattle.record.specs.StepStandsLaws.{oldest-back, refused-same, step-stands}
+use Rattle.record.specs.ColumnLaws.{chosen, skipped}
+use Rattle.record.specs.DemandRecord.{freshRecord, freshWith, requestFor, messageFor, readOut, inMemory, callRecord, eventsRecord, afterRecord, answerRecord, Demand-3-record-from, Demand-3-record}
 use Rattle.record.specs.declared.State.{State}  -- keep
-use Rattle.record.specs.declared.Out.{Out}  -- keep
 use Rattle.record.specs.declared.Request.{Request}  -- keep
-use Rattle.record.specs.declared.Request.the-variants.{Task, Mutex, Sem, Start, Lock, Unlock, Pend, Post, Flush, Sleep, Yield, Hold, Free, Tick, Level, Outcome}  -- keep
+use Rattle.record.specs.declared.Request.the-variants.{Task, Mutex, Sem, Start, Lock, Unlock, Pend, Post, Flush, Sleep, Yield, Hold, Free, Tick, Level, Outcome, Queue, OwnedQueue, Send, Receive, Word}  -- keep
 use Rattle.rules.specs.State.{State as Model, fresh}  -- keep
-use Rattle.rules.specs.Answer.{Answer as Ruled, decide, stepSound, standing, stopped, step}  -- keep
+use Rattle.rules.specs.Answer.{Answer as Ruled, decide, stepSound, standing, stopped, malformed, isFormed, step}  -- keep
 
-step-back : (x : Step) → stepFor (requestFor x) ≡ x
-unfolding stepFor requestFor
+pub step-back : (x : Step) → stepFor (requestFor x) (messageFor x) ≡ x
+unfolding stepFor requestFor messageFor
 step-back (task p) = refl
 step-back (mutex k) = refl
 step-back (sem count max) = refl
@@ -57,34 +65,44 @@ step-back free = refl
 step-back tick = refl
 step-back (level i) = refl
 step-back (outcome i) = refl
+step-back (queue w d none) = refl
+step-back (queue w d (some o)) = refl
+step-back (send q t m) = refl
+step-back (receive q t) = refl
+step-back (word i n) = refl
 
 -- and every request is that of a step, so that demand 3's list reaches it
-pub request-back : (x : Request) → requestFor (stepFor x) ≡ x
+pub request-back : (x : Request) (m : List ℕ) → requestFor (stepFor x m) ≡ x
 unfolding stepFor requestFor
-request-back (Task p) = refl
-request-back (Mutex k) = refl
-request-back (Sem count max) = refl
-request-back Start = refl
-request-back (Lock m t) = refl
-request-back (Unlock m) = refl
-request-back (Pend k t) = refl
-request-back (Post k) = refl
-request-back (Flush k) = refl
-request-back (Sleep t) = refl
-request-back Yield = refl
-request-back Hold = refl
-request-back Free = refl
-request-back Tick = refl
-request-back (Level i) = refl
-request-back (Outcome i) = refl
+request-back (Task p) m = refl
+request-back (Mutex k) m = refl
+request-back (Sem count max) m = refl
+request-back Start m = refl
+request-back (Lock j t) m = refl
+request-back (Unlock j) m = refl
+request-back (Pend k t) m = refl
+request-back (Post k) m = refl
+request-back (Flush k) m = refl
+request-back (Sleep t) m = refl
+request-back Yield m = refl
+request-back Hold m = refl
+request-back Free m = refl
+request-back Tick m = refl
+request-back (Level i) m = refl
+request-back (Outcome i) m = refl
+request-back (Queue w d) m = refl
+request-back (OwnedQueue w d o) m = refl
+request-back (Send q t) m = refl
+request-back (Receive q t) m = refl
+request-back (Word i n) m = refl
 
 -- an answer's three numbers are read back from its cases
 module _ (k v : ℕ) (r : Option ℕ) where
-  number-back : numberOf (answerFor k v r) ≡ k
+  pub number-back : numberOf (answerFor k v r) ≡ k
   unfolding numberOf answerFor
   number-back = by-test (λ a. numberOf a ≡ k) (leb k 1) (λ e. refl) (λ e. refl)
 
-  value-back : valueOf (answerFor k v r) ≡ v
+  pub value-back : valueOf (answerFor k v r) ≡ v
   unfolding valueOf answerFor
   value-back = by-test (λ a. valueOf a ≡ v) (leb k 1) (λ e. refl) (λ e. refl)
 
@@ -100,82 +118,120 @@ record Fair (a : Ruled) : Type 0 where
   sound : Inv (a .state)
   runs : a .run ≡ a .state .running
 
+-- what comes of a step is the packed answer, with a block that holds the messages of the next state
+record Handed (A : After) (a : Ruled) : Type 0 where
+  o : List ℕ
+  b : List ℕ
+  there : Stands o b (a .state .tables .queues)
+  whole : A .whole ≡ packed o b (a .state)
+  answer : A .answer ≡ answerFor (a .number) (a .value) (a .run)
+
 -- the running task of a sound state is read back from its id
-runner-back : (s : Model) → Inv s → taskAt (idOf (s .running)) ≡ s .running
+runner-back : (s : Model) → Inv s → (o b : List ℕ) → Stands o b (s .tables .queues) → taskAt (idOf (s .running)) ≡ s .running
 unfolding view pack
-runner-back s I = ap (λ z. z .running) (view-pack s I)
+runner-back s I o b S = ap (λ z. z .running) (view-pack s I o b S)
 
--- such an answer is read back from its packing
-read-out : (a : Ruled) → Fair a → readOut (outFor a) ≡ a
-unfolding readOut outFor
-read-out a F = same-ruled _ _ (view-pack (a .state) (F .sound)) (number-back (a .number) (a .value) (a .run)) (value-back (a .number) (a .value) (a .run))
-    (ap taskAt (run-back (a .number) (a .value) (a .run)) ∙ ap (λ o. taskAt (idOf o)) (F .runs) ∙ runner-back (a .state) (F .sound) ∙ sym (F .runs))
-
-tidy-of : (k : State) → soundOf k ≡ true → tidyb k ≡ true
-unfolding soundOf
-tidy-of k e = and-l _ _ e
+-- such an answer is read back
+read-handed : (A : After) (a : Ruled) → Fair a → Handed A a → readOut A ≡ a
+unfolding readOut
+read-handed A a F H = same-ruled _ _
+    (ap view (H .whole) ∙ view-pack (a .state) (F .sound) (H .o) (H .b) (H .there))
+    (ap numberOf (H .answer) ∙ number-back (a .number) (a .value) (a .run))
+    (ap valueOf (H .answer) ∙ value-back (a .number) (a .value) (a .run))
+    (ap (λ z. taskAt (runOf z)) (H .answer) ∙ ap taskAt (run-back (a .number) (a .value) (a .run)) ∙ ap (λ r. taskAt (idOf r)) (F .runs)
+    ∙ runner-back (a .state) (F .sound) (H .o) (H .b) (H .there) ∙ sym (F .runs))
 
 -- the task to run of a refusal: of a sound record the running one as it stands
-pub standing-sound : (k : State) → soundOf k ≡ true → idOf (standingIn k) ≡ k .running
+pub standing-sound : (h : Whole) → soundOf h ≡ true → idOf (standingIn h) ≡ h .state .running
 unfolding standingIn
-standing-sound k e = rw e (id-back (k .running) (running-id k (tidy-of k e)))
+standing-sound h e = rw e (id-back (h .state .running) (running-id (h .state) (sound-tidy h e)))
 
 -- and of any other none
-pub standing-unsound : (k : State) → soundOf k ≡ false → idOf (standingIn k) ≡ noId
+pub standing-unsound : (h : Whole) → soundOf h ≡ false → idOf (standingIn h) ≡ noId
 unfolding standingIn idOf
-standing-unsound k e = rw e refl
+standing-unsound h e = rw e refl
 
 module _ (s : Model) (I : Inv s) where
-  step-is : (x : Step) → step s x ≡ stepSound s x
+  pub step-is : (x : Step) → isFormed x ≡ true → step s x ≡ stepSound s x
   unfolding step
-  step-is x = chosen _ _ _ (inv-sound s I)
+  step-is x f = chosen _ _ _ f ∙ chosen _ _ _ (inv-sound s I)
 
-  -- the step on the packed state is the packed step
-  pub step-of-pack : (x : Request) → stepOf (pack s) x ≡ outFor (stepSound s (stepFor x))
-  unfolding stepOf
-  step-of-pack x = chosen _ _ _ (pack-sound s I) ∙ ap (λ z. outFor (stepSound z (stepFor x))) (view-pack s I)
-
-  request-of-pack : (x : Step) → stepOf (pack s) (requestFor x) ≡ outFor (step s x)
-  request-of-pack x = step-of-pack (requestFor x) ∙ ap (λ y. outFor (stepSound s y)) (step-back x) ∙ ap outFor (sym (step-is x))
-
-  stands : standingIn (pack s) ≡ standing s
-  unfolding standingIn pack
-  stands = chosen _ _ _ (pack-sound s I) ∙ runner-back s I ∙ sym (sound-stands s I)
-
-  stopped-pack : stays (pack s) 8 0 (standingIn (pack s)) ≡ outFor (stopped s 8)
-  unfolding stays outFor answerFor
-  stopped-pack = ap (stays (pack s) 8 0) stands
-
-  fair-step : (x : Step) → Fair (step s x)
+  fair-sound : (x : Step) → Fair (stepSound s x)
   unfolding stepSound decide
-  fair-step x = rw (step-is x) (record { sound = step-inv s I x; runs = same-run (firstRow (refusals s x)) })
+  fair-sound x = record { sound = step-inv s I x; runs = same-run (firstRow (refusals s x)) }
     where
       same-run : (o : Option Row) → (decide s x o) .run ≡ (decide s x o) .state .running
       same-run none = refl
       same-run (some r) = refl
 
+  fair-step : (x : Step) → Fair (step s x)
+  unfolding step malformed
+  fair-step x = by-test Fair (isFormed x) (λ f. rw (inv-sound s I) (fair-sound x)) (λ f. record { sound = I; runs = R.sound-stands s I })
+
   fair-call : (c : Call) → Fair (call s c)
-  fair-call c = call-by Fair s c (fair-step (c .made)) (record { sound = I; runs = sound-stands s I })
+  fair-call c = call-by Fair s c (fair-step (c .made)) (record { sound = I; runs = R.sound-stands s I })
 
-  -- and so is a call, with a log line or without
-  pub call-pack : (c : Call) → callRecord (pack s) c ≡ outFor (call s c)
-  unfolding callRecord call inRoom withRoom inMemory
-  call-pack c = ap (inMemory (pack s) (c .room)) (request-of-pack (c .made)) ∙ go (c .room)
-    where
-      a : Ruled
-      a = step s (c .made)
+  module _ (o b : List ℕ) (S : Stands o b (s .tables .queues)) where
+    abbrev h : Whole
+    h = packed o b s
 
-      choice : (b : Bool) → cond b (outFor a) (outFor (stopped s 8)) ≡ outFor (cond b a (stopped s 8))
-      choice true = refl
-      choice false = refl
+    stands : standingIn h ≡ standing s
+    unfolding standingIn pack
+    stands = chosen _ _ _ (pack-sound s I o b S) ∙ runner-back s I o b S ∙ sym (R.sound-stands s I)
 
-      go : (o : Option ℕ) → inMemory (pack s) o (outFor a) ≡ outFor (inRoom s o a)
-      go none = refl
-      go (some room) = rw (read-out a (fair-step (c .made)), stopped-pack) (choice (leb (length (logLine a)) room))
+    -- a refusal that no row gives
+    stopped-handed : (k : ℕ) → Handed (stays h k 0 (standingIn h)) (stopped s k)
+    unfolding stays
+    stopped-handed k = record { o = o; b = b; there = S; whole = refl; answer = ap (answerFor k 0) stands }
 
-  pub answer-pack : answerRecord (pack s) ≡ call s
-  unfolding answerRecord
-  answer-pack = fun-ext (λ c. ap readOut (call-pack c) ∙ read-out (call s c) (fair-call c))
+    -- the step on the packed state is the packed step
+    pub step-of-pack : (x : Step) → isFormed x ≡ true → stepBy h x ≡ afterFor h x (stepSound s x)
+    unfolding stepBy
+    step-of-pack x f = chosen _ _ _ f ∙ chosen _ _ _ (pack-sound s I o b S) ∙ ap (λ z. afterFor h x (stepSound z x)) (view-pack s I o b S)
+
+    packed-answer : (x : Step) → Handed (afterFor h x (stepSound s x)) (stepSound s x)
+    unfolding afterFor pack
+    packed-answer x = record {
+      o = oldestFor (packQueues o (s .tables .queues)) x ((stepSound s x) .number);
+      b = blockFor h x ((stepSound s x) .number);
+      there = step-stands s I o b S x;
+      whole = refl;
+      answer = refl;
+    }
+
+    malformed-by : (x : Step) → isFormed x ≡ false → stepBy h x ≡ stays h 14 0 (standingIn h)
+    unfolding stepBy
+    malformed-by x f = skipped _ _ _ f
+
+    step-handed : (x : Step) → Handed (stepBy h x) (step s x)
+    unfolding step malformed
+    step-handed x = elim (which (isFormed x)) [
+      | inl f ↦ rw (step-of-pack x f, f, inv-sound s I) (packed-answer x)
+      | inr f ↦ rw (malformed-by x f, f) (stopped-handed 14)
+    ]
+
+    -- and so is a call, with a log line or without
+    call-handed : (c : Call) → Handed (callRecord h c) (call s c)
+    unfolding callRecord call inRoom withRoom inMemory
+    call-handed c = rw (step-back (c .made)) (go (c .room))
+      where
+        a : Ruled
+        a = step s (c .made)
+
+        A : After
+        A = stepBy h (c .made)
+
+        choice : (t : Bool) → Handed (cond t A (stays h 8 0 (standingIn h))) (cond t a (stopped s 8))
+        choice true = step-handed (c .made)
+        choice false = stopped-handed 8
+
+        go : (room : Option ℕ) → Handed (inMemory h room A) (inRoom s room a)
+        go none = step-handed (c .made)
+        go (some room) = rw (read-handed A a (fair-step (c .made)) (step-handed (c .made))) (choice (leb (length (logLine a)) room))
+
+    pub answer-pack : answerRecord h ≡ call s
+    unfolding answerRecord
+    answer-pack = fun-ext (λ c. read-handed (callRecord h c) (call s c) (fair-call c) (call-handed c))
 
 -- over the list: the states stay sound, the records are their packings, and the events are the same
 after-inv : (cs : List Call) (s : Model) → Inv s → Inv (after s cs)
@@ -183,92 +239,149 @@ unfolding after
 after-inv [] s I = I
 after-inv (c ∷ cs) s I = after-inv cs ((call s c) .state) (call-inv s I c)
 
-pub after-pack : (cs : List Call) (s : Model) → Inv s → afterRecord (pack s) cs ≡ pack (after s cs)
-unfolding after afterRecord outFor
-after-pack [] s I = refl
-after-pack (c ∷ cs) s I = ap (λ o. afterRecord (o .state) cs) (call-pack s I c) ∙ after-pack cs ((call s c) .state) (call-inv s I c)
+-- what is handed on at the end
+record HandedOn (h : Whole) (s : Model) : Type 0 where
+  o : List ℕ
+  b : List ℕ
+  there : Stands o b (s .tables .queues)
+  whole : h ≡ packed o b s
 
-pub events-pack : (cs : List Call) (s : Model) → Inv s → eventsRecord (pack s) cs ≡ events s cs
-unfolding events eventsRecord readOut outFor
-events-pack [] s I = refl
-events-pack (c ∷ cs) s I = ap (λ o. eventOf (c .made) (readOut o) ∷ eventsRecord (o .state) cs) (call-pack s I c)
-    ∙ ap (λ a. eventOf (c .made) a ∷ eventsRecord (pack ((call s c) .state)) cs) (read-out (call s c) (fair-call s I c))
-    ∙ ap (λ l. eventOf (c .made) (call s c) ∷ l) (events-pack cs ((call s c) .state) (call-inv s I c))
+after-pack : (cs : List Call) (s : Model) → Inv s → (h : Whole) → HandedOn h s → HandedOn (afterRecord h cs) (after s cs)
+unfolding after afterRecord
+after-pack [] s I h H = H
+after-pack (c ∷ cs) s I h H = after-pack cs ((call s c) .state) (call-inv s I c) ((callRecord h c) .whole) (record {
+  o = K .o;
+  b = K .b;
+  there = K .there;
+  whole = ap (λ z. (callRecord z c) .whole) (H .whole) ∙ K .whole;
+})
+  where
+    K : Handed (callRecord (packed (H .o) (H .b) s) c) (call s c)
+    K = call-handed s I (H .o) (H .b) (H .there) c
+
+events-pack : (cs : List Call) (s : Model) → Inv s → (h : Whole) → HandedOn h s → eventsRecord h cs ≡ events s cs
+unfolding events eventsRecord readOut
+events-pack [] s I h H = refl
+events-pack (c ∷ cs) s I h H =
+    ap (λ z. eventOf (c .made) (readOut (callRecord z c)) ∷ eventsRecord ((callRecord h c) .whole) cs) (H .whole)
+    ∙ ap (λ a. eventOf (c .made) a ∷ eventsRecord ((callRecord h c) .whole) cs) (read-handed _ (call s c) (fair-call s I c) K)
+    ∙ ap (λ l. eventOf (c .made) (call s c) ∷ l) (events-pack cs ((call s c) .state) (call-inv s I c) ((callRecord h c) .whole)
+    (record { o = K .o; b = K .b; there = K .there; whole = ap (λ z. (callRecord z c) .whole) (H .whole) ∙ K .whole }))
+  where
+    K : Handed (callRecord (packed (H .o) (H .b) s) c) (call s c)
+    K = call-handed s I (H .o) (H .b) (H .there) c
 
 -- demand 3, over every list of calls from the packing of a sound state
-demand-3-pack : (s : Model) → Inv s → Demand-3-record-from (pack s)
-demand-3-pack s I cs = rw (view-pack s I, events-pack cs s I, after-pack cs s I, answer-pack (after s cs) (after-inv cs s I)) (demand-3-from s (inv-sound s I) cs)
+demand-3-pack : (s : Model) → Inv s → (o b : List ℕ) → Stands o b (s .tables .queues) → Demand-3-record-from (packed o b s)
+demand-3-pack s I o b S cs = rw (view-pack s I o b S, events-pack cs s I (packed o b s) first, E .whole, answer-pack (after s cs) (after-inv cs s I) (E .o) (E .b) (E .there)) (demand-3-from s (inv-sound s I) cs)
+  where
+    first : HandedOn (packed o b s) s
+    first = record { o = o; b = b; there = S; whole = refl }
 
--- and so from any sound record
-pub demand-3-record-from : (k : State) → Typed k → soundOf k ≡ true → Demand-3-record-from k
-demand-3-record-from k T e = subst Demand-3-record-from (sound-pack k e T) (demand-3-pack (view k) (sound-view k e))
+    E : HandedOn (afterRecord (packed o b s) cs) (after s cs)
+    E = after-pack cs s I (packed o b s) first
 
--- and from the fresh one with an accepted start
+-- a refusal on a packed state hands on the packed state
+packed-again : (s : Model) (I : Inv s) (o b : List ℕ) (S : Stands o b (s .tables .queues)) (x : Step) (n : ℕ) → eqb n 0 ≡ false
+    → whole (pack (oldestFor ((packed o b s) .state .queues) x n) s) (packWords (s .tables)) (blockFor (packed o b s) x n) ≡ packed o b s
+unfolding pack
+packed-again s I o b S x n z = let q = refused-same s I o b S x n z in ap (λ y. whole (pack y s) (packWords (s .tables)) (blockFor (packed o b s) x n)) (q .0) ∙ ap (whole (pack o s) (packWords (s .tables))) (q .1)
+
+-- a sound record with its words and block is the packing of what it stands for, with the ring places of its oldest messages
+module _ (h : Whole) (T : Typed (h .state)) (W : WordsTyped (h .words)) (sound : soundOf h ≡ true) where
+  pub whole-pack : packed (oldestIn (h .state .queues)) (h .block) (view h) ≡ h
+  unfolding view
+  whole-pack = λ i. record { state = sound-pack h sound T i; words = sound-words h sound W i; block = h .block }
+
+  pub view-stands : Stands (oldestIn (h .state .queues)) (h .block) ((view h) .tables .queues)
+  unfolding view
+  view-stands = sound-stands h sound T
+
+  -- and so demand 3 is from any sound record
+  pub demand-3-record-from : Demand-3-record-from h
+  demand-3-record-from = subst Demand-3-record-from whole-pack (demand-3-pack (view h) (sound-view h sound) (oldestIn (h .state .queues)) (h .block) view-stands)
+
+  -- the step on a sound record is the packed step of what it stands for
+  pub step-of-sound : (x : Step) → isFormed x ≡ true → stepBy h x ≡ afterFor h x (stepSound (view h) x)
+  unfolding stepBy
+  step-of-sound x f = chosen _ _ _ f ∙ chosen _ _ _ sound
+
+  handed : (x : Step) → Handed (stepBy h x) (step (view h) x)
+  handed x = subst (λ z. Handed (stepBy z x) (step (view h) x)) whole-pack (step-handed (view h) (sound-view h sound) (oldestIn (h .state .queues)) (h .block) view-stands x)
+
+  -- every step keeps it sound, and gives the state that the rules give
+  pub step-sound : (x : Step) → soundOf ((stepBy h x) .whole) ≡ true
+  step-sound x = let K = handed x in rw (K .whole) (pack-sound ((step (view h) x) .state) (fair-step (view h) (sound-view h sound) x .sound) (K .o) (K .b) (K .there))
+
+  pub step-view : (x : Step) → view ((stepBy h x) .whole) ≡ (step (view h) x) .state
+  step-view x = let K = handed x in ap view (K .whole) ∙ view-pack ((step (view h) x) .state) (fair-step (view h) (sound-view h sound) x .sound) (K .o) (K .b) (K .there)
+
+-- and from the fresh one with an accepted start, whatever block is lent
+fresh-stands : (block : List ℕ) → Stands [] block ((fresh (length block)) .tables .queues)
+unfolding fresh
+fresh-stands block = record { oldest-column = refl; in-ring = λ q h. absurd (omega arith); there = λ q h. absurd (omega arith); space = refl }
+
+fresh-packed : (block : List ℕ) → freshWith block ≡ packed [] block (fresh (length block))
+unfolding freshWith freshRecord fresh pack packTasks packMutexes packSemaphores packQueues packWords pad joined filled taskListOf idOf
+fresh-packed block = refl
+
 pub demand-3-record : Demand-3-record
-unfolding freshRecord
-demand-3-record = demand-3-pack fresh fresh-inv
+demand-3-record block = subst Demand-3-record-from (sym (fresh-packed block)) (demand-3-pack (fresh (length block)) (fresh-inv (length block)) [] block (fresh-stands block))
 
--- every step keeps a sound record sound
-pub step-sound : (k : State) (x : Request) → soundOf k ≡ true → soundOf ((stepOf k x) .state) ≡ true
-unfolding stepOf outFor
-step-sound k x sound = rw sound (pack-sound ((stepSound (view k) (stepFor x)) .state) (step-inv (view k) (sound-view k sound) (stepFor x)))
+pub fresh-sound : (block : List ℕ) → soundOf (freshWith block) ≡ true
+fresh-sound block = ap soundOf (fresh-packed block) ∙ pack-sound (fresh (length block)) (fresh-inv (length block)) [] block (fresh-stands block)
 
--- a step answers an unsound record 15 and leaves it, so no step makes one sound
-pub step-verdict : (k : State) (x : Request) → soundOf ((stepOf k x) .state) ≡ soundOf k
-unfolding stepOf stays
-step-verdict k x = elim (which (soundOf k)) [
-  | inl e ↦ step-sound k x e ∙ sym e
-  | inr e ↦ rw e e
+-- a step answers an unsound record 15 or 14 and leaves it, so no step makes one sound
+pub step-verdict : (h : Whole) (x : Step) → Typed (h .state) → WordsTyped (h .words) → soundOf ((stepBy h x) .whole) ≡ soundOf h
+unfolding stepBy stays
+step-verdict h x T W = elim (which (soundOf h)) [
+  | inl e ↦ step-sound h T W e x ∙ sym e
+  | inr e ↦ by-test (λ (A : After). soundOf (A .whole) ≡ soundOf h) (isFormed x) (λ f. rw e e) (λ f. refl)
 ]
 
 -- and hands on a record with the lengths and the numbers of its type
-pub step-typed : (k : State) (x : Request) → Typed k → Typed ((stepOf k x) .state)
-unfolding stepOf outFor stays
-step-typed k x T = by-test (λ (o : Out). Typed (o .state)) (soundOf k)
-    (λ e. pack-typed ((stepSound (view k) (stepFor x)) .state) (step-inv (view k) (sound-view k e) (stepFor x))) (λ e. T)
+pub step-typed : (h : Whole) (x : Step) → Typed (h .state) → WordsTyped (h .words) → Typed ((stepBy h x) .whole .state) × WordsTyped ((stepBy h x) .whole .words)
+unfolding stepBy stays
+step-typed h x T W = elim (which (soundOf h)) [
+  | inl e ↦ (let K = handed h T W e x in
+      let I = fair-step (view h) (sound-view h e) x .sound in
+      rw (K .whole) (pack-typed ((step (view h) x) .state) I (K .o) (omega (arith, K .there .oldest-column, I .facts .few-queues)), words-typed ((step (view h) x) .state .tables) (I .facts)))
+  | inr e ↦ by-test (λ (A : After). Typed (A .whole .state) × WordsTyped (A .whole .words)) (isFormed x) (λ f. rw e (T, W)) (λ f. (T, W))
+]
 
--- "Every number but 0 and 1 leaves the state unchanged.": the record too, whether it is sound or not
-pub refused-stays : (k : State) (x : Request) → Typed k → 1 < numberOf ((stepOf k x) .answer) → (stepOf k x) .state ≡ k
-unfolding stepOf outFor stays
-refused-stays k x T = by-test (λ (o : Out). 1 < numberOf (o .answer) → o .state ≡ k) (soundOf k) (λ e h. go e h) (λ e h. refl)
+-- the same state packed again where it came from
+left-alone : (h : Whole) (T : Typed (h .state)) (W : WordsTyped (h .words)) (e : soundOf h ≡ true) (x : Step) (n : ℕ) (s : Model) → eqb n 0 ≡ false → s ≡ view h
+    → whole (pack (oldestFor (h .state .queues) x n) s) (packWords (s .tables)) (blockFor h x n) ≡ h
+left-alone h T W e x n s z same =
+    ap (λ y. whole (pack (oldestFor (h .state .queues) x n) y) (packWords (y .tables)) (blockFor h x n)) same
+    ∙ ap (λ y. whole (pack (oldestFor (y .state .queues) x n) (view h)) (packWords ((view h) .tables)) (blockFor y x n)) (sym (whole-pack h T W e))
+    ∙ packed-again (view h) (sound-view h e) (oldestIn (h .state .queues)) (h .block) (view-stands h T W e) x n z
+    ∙ whole-pack h T W e
+
+-- "Every number but 0 and 1 leaves the state unchanged.": the record, the words and the block too, whether the record is sound or not
+pub refused-stays : (h : Whole) (x : Step) → Typed (h .state) → WordsTyped (h .words) → 1 < numberOf ((stepBy h x) .answer) → (stepBy h x) .whole ≡ h
+unfolding stepBy afterFor stays
+refused-stays h x T W = by-test (λ (A : After). 1 < numberOf (A .answer) → A .whole ≡ h) (isFormed x)
+    (λ f. by-test (λ (A : After). 1 < numberOf (A .answer) → A .whole ≡ h) (soundOf h) (λ e k. go f e k) (λ e k. refl)) (λ f k. refl)
   where
     a : Ruled
-    a = stepSound (view k) (stepFor x)
+    a = stepSound (view h) x
 
-    go : soundOf k ≡ true → 1 < numberOf ((outFor a) .answer) → pack (a .state) ≡ k
-    go e h =
-        let same : step (view k) (stepFor x) ≡ a = step-is (view k) (sound-view k e) (stepFor x) in
+    go : isFormed x ≡ true → soundOf h ≡ true → 1 < numberOf ((afterFor h x a) .answer) → (afterFor h x a) .whole ≡ h
+    go f e k =
+        let same : step (view h) x ≡ a = step-is (view h) (sound-view h e) x f in
         let above : 1 < a .number = omega (arith, number-back (a .number) (a .value) (a .run)) in
-        ap pack (rw same at (refused-unchanged (view k) (stepFor x)) above) ∙ sound-pack k e T
+        left-alone h T W e x (a .number) (a .state) (ne-eqb (a .number) 0 (λ z. omega arith)) (rw same at (refused-unchanged (view h) x) above)
 
 -- and with a log line: demand 1 for every call
-pub call-stays : (k : State) (c : Call) → Typed k → 1 < numberOf ((callRecord k c) .answer) → (callRecord k c) .state ≡ k
+pub call-stays : (h : Whole) (c : Call) → Typed (h .state) → WordsTyped (h .words) → 1 < numberOf ((callRecord h c) .answer) → (callRecord h c) .whole ≡ h
 unfolding callRecord inMemory stays
-call-stays k c T = go (c .room)
+call-stays h c T W = go (c .room)
   where
-    o : Out
-    o = stepOf k (requestFor (c .made))
+    A : After
+    A = stepOf h (requestFor (c .made)) (messageFor (c .made))
 
-    go : (room : Option ℕ) → 1 < numberOf ((inMemory k room o) .answer) → (inMemory k room o) .state ≡ k
-    go none = refused-stays k (requestFor (c .made)) T
-    go (some room) = by-test (λ (z : Out). 1 < numberOf (z .answer) → z .state ≡ k) (leb (length (logLine (readOut o))) room)
-        (λ e. refused-stays k (requestFor (c .made)) T) (λ e h. refl)
-
--- "links (lock answered 1 or 12)": the value is the length of the defined chain up to the caller, 1 to 15
-pub lock-links-record : (k : State) (m t : ℕ) → (numberOf ((stepOf k (Lock m t)) .answer) ≡ 1) ⊎ (numberOf ((stepOf k (Lock m t)) .answer) ≡ 12)
-    → (r : ℕ) × (taskAt (k .running) ≡ some r) × (valueOf ((stepOf k (Lock m t)) .answer) ≡ linksOf (viewTables k) r (mutexOf m))
-    × (1 ≤ valueOf ((stepOf k (Lock m t)) .answer)) × (valueOf ((stepOf k (Lock m t)) .answer) ≤ 15)
-unfolding stepOf outFor stepFor stays view
-lock-links-record k m t = by-test (λ (o : Out). Claim (numberOf (o .answer)) (valueOf (o .answer))) (soundOf k)
-    (λ e. rw (number-back (a .number) (a .value) (a .run), value-back (a .number) (a .value) (a .run)) (ruled e))
-    (λ e h. absurd (elim h [ inl z ↦ omega (arith, number-back 15 0 none) | inr z ↦ omega (arith, number-back 15 0 none) ]))
-  where
-    a : Ruled
-    a = stepSound (view k) (lock m t)
-
-    Claim : ℕ → ℕ → Type 0
-    Claim number value = (number ≡ 1) ⊎ (number ≡ 12)
-        → (r : ℕ) × (taskAt (k .running) ≡ some r) × (value ≡ linksOf (viewTables k) r (mutexOf m)) × (1 ≤ value) × (value ≤ 15)
-
-    ruled : soundOf k ≡ true → Claim (a .number) (a .value)
-    ruled e = subst (λ (z : Ruled). Claim (z .number) (z .value)) (step-is (view k) (sound-view k e) (lock m t)) (lock-links (view k) (sound-view k e) m t)
+    go : (room : Option ℕ) → 1 < numberOf ((inMemory h room A) .answer) → (inMemory h room A) .whole ≡ h
+    go none = refused-stays h (stepFor (requestFor (c .made)) (messageFor (c .made))) T W
+    go (some room) = by-test (λ (z : After). 1 < numberOf (z .answer) → z .whole ≡ h) (leb (length (logLine (readOut A))) room)
+        (λ e. refused-stays h (stepFor (requestFor (c .made)) (messageFor (c .made))) T W) (λ e k. refl)

@@ -1,5 +1,7 @@
 -- Definitions first, then the laws of them.
+pub mod Whole
 pub mod Record
+pub mod Layout
 pub mod SoundRecord
 pub mod StepRecord
 pub mod DemandRecord
@@ -11,6 +13,11 @@ pub mod TidyLaws
 pub mod ViewLaws
 pub mod PackLaws
 pub mod ReadLaws
+pub mod WordsPackLaws
 pub mod SoundPackLaws
+pub mod StandsLaws
+pub mod StepStandsLaws
 pub mod DemandRecordLaws
+pub mod BlockLaws
+pub mod LinkRecordLaws
 pub mod Edges

@@ -1,6 +1,6 @@
 -- Reading the packed tables: each place holds the code of what the rules' tables hold, and the code's levels are the levels.
 use mathlib.Core.Path.{_≡_, refl, ap, sym, _∙_, fun-ext}
-use mathlib.Core.List.{List, map}
+use mathlib.Core.List.{List, [], map}
 use mathlib.Core.Logic.{inl, inr}
 use mathlib.Core.Option.{Option, none, some}
 use Prim.Native.Nat.{ℕ, _≤_, min}
@@ -14,7 +14,7 @@ use Rattle.lists.specs.TestLaws.{which, by-test}
 use Rattle.lists.specs.TableLaws.{length-filled, getD-filled, length-pad, getD-pad}
 use Rattle.chains.specs.Least.{leadsTo, leastLeading}
 use Rattle.chains.specs.LeastLaws.{least-start}
-use Rattle.rules.specs.Sizes.{taskPlaces, maxMutexes, maxSemaphores, inheriting}
+use Rattle.rules.specs.Sizes.{taskPlaces, maxMutexes, maxSemaphores, maxQueues, inheriting}
 use Rattle.rules.specs.Tables.{awaitedKind, awaitedObject, outcomeOf, countOf, maximumOf, kindOf, ownerOf}
 use Rattle.rules.specs.Levels.{ownerAwaited, heirAwaited, ofWait, next, lends, levelIn}
 use Rattle.rules.specs.Invariant.{Facts}
@@ -22,12 +22,13 @@ use Rattle.rules.specs.LevelLaws.{wait-out, lends-ended}
 use Rattle.task_lists.specs.TaskList.{noId, keyOf, idOf}
 use Rattle.walks.specs.Walk.{taskAt, nextIn, raised}
 use Rattle.walks.specs.WalkLaws.{next-in, next-out, length-raised, raised-ext, raised-out}
-use Rattle.record.specs.Record.{kindCode, objectCode, timedCode, dueCode, packTasks, packMutexes, packSemaphores, pack}
+use Rattle.record.specs.Record.{kindCode, objectCode, timedCode, dueCode, packTasks, packMutexes, packSemaphores, packQueues, pack}
 use Rattle.record.specs.Setters.{putLevel}
-use Rattle.record.specs.Reads.{ownerAt, kindAt, ledBy, leadsAt, nextAt, heirAt, lendsAt, newLevels, countAt, maximumAt}
+use Rattle.record.specs.Reads.{ownerAt, kindAt, queueOwnerAt, ledBy, leadsAt, nextAt, heirAt, lendsAt, newLevels, countAt, maximumAt}
 use Rattle.record.specs.PackLaws.{levelColumn, packWith, task-back}
+use Rattle.record.specs.ViewLaws.{Leading}
 use Rattle.rules.specs.State.{State as Model}  -- keep
-use Rattle.rules.specs.Tables.{Tables, Wait, Awaited, mutexOf, semOf, time, taskCount, priorityOf, waitOf, ownerOf, kindOf}  -- keep
+use Rattle.rules.specs.Tables.{Tables, Wait, Awaited, mutexOf, semOf, roomIn, messageIn, time, taskCount, priorityOf, waitOf, ownerOf, kindOf, widthOf, depthOf, queueOwnerOf, messagesOf}  -- keep
 
 -- behind the last task every level is 0
 pub level-out : (t : Tables) (i : ℕ) → taskCount t ≤ i → levelIn t i ≡ 0
@@ -97,24 +98,51 @@ module _ (t : Tables) (m : ℕ) where
   unfolding packSemaphores
   maximum-read = getD-pad maxSemaphores 0 (t .semaphores .maxima) m
 
+-- the packed queues, read at every place: `o` has the ring places of the oldest messages
+module _ (t : Tables) (o : List ℕ) (q : ℕ) where
+  pub queue-owner-read : queueOwnerAt (packQueues o (t .queues)) q ≡ idOf (queueOwnerOf t q)
+  unfolding packQueues idOf
+  queue-owner-read = getD-pad maxQueues noId (map idOf (t .queues .owners)) q ∙ List·getD-map idOf (t .queues .owners) q none
+
+  pub width-read : getD ((packQueues o (t .queues)) .width) q 0 ≡ widthOf t q
+  unfolding packQueues
+  width-read = getD-pad maxQueues 0 (t .queues .widths) q
+
+  pub depth-read : getD ((packQueues o (t .queues)) .depth) q 0 ≡ depthOf t q
+  unfolding packQueues
+  depth-read = getD-pad maxQueues 0 (t .queues .depths) q
+
+  pub oldest-read : getD ((packQueues o (t .queues)) .oldest) q 0 ≡ getD o q 0
+  unfolding packQueues
+  oldest-read = getD-pad maxQueues 0 o q
+
+  pub used-read : getD ((packQueues o (t .queues)) .used) q 0 ≡ length (messagesOf t q)
+  unfolding packQueues
+  used-read = getD-pad maxQueues 0 (map length (t .queues .messages)) q ∙ List·getD-map length (t .queues .messages) q []
+
 -- an owner stands for itself
 module _ (t : Tables) (F : Facts t) (m : ℕ) where
   pub owner-back : taskAt (idOf (ownerOf t m)) ≡ ownerOf t m
   owner-back = task-back (ownerOf t m) (λ o e. omega (arith, F .owners m o e, F .few-tasks))
 
+  pub queue-owner-back : taskAt (idOf (queueOwnerOf t m)) ≡ queueOwnerOf t m
+  queue-owner-back = task-back (queueOwnerOf t m) (λ o e. omega (arith, F .queue-owners m o e, F .few-tasks))
+
 -- who leads to whom, by the packed tables
 module _ (t : Tables) (F : Facts t) where
-  -- by a table that tells whom a wait for each mutex leads to
-  led-code : (l : List ℕ) (f : Awaited → Option ℕ) → ((j : ℕ) → taskAt (getD l j noId) ≡ f (mutexOf j)) → ((j : ℕ) → f (semOf j) ≡ none) → f time ≡ none
-      → (w : Option Wait) → taskAt (ledBy l (kindCode w) (objectCode w)) ≡ ofWait f w
+  -- by tables that tell whom a wait for each mutex, and one to send to each queue, leads to
+  led-code : (l n : List ℕ) (f : Awaited → Option ℕ) → ((j : ℕ) → taskAt (getD l j noId) ≡ f (mutexOf j)) → ((j : ℕ) → taskAt (getD n j noId) ≡ f (roomIn j)) → Leading f
+      → (w : Option Wait) → taskAt (ledBy l n (kindCode w) (objectCode w)) ≡ ofWait f w
   unfolding kindCode objectCode awaitedKind awaitedObject ofWait ledBy
-  led-code l f told no-sem no-time none = refl
-  led-code l f told no-sem no-time (some w) = go (w .on)
+  led-code l n f told told-queue L none = refl
+  led-code l n f told told-queue L (some w) = go (w .on)
     where
-      go : (a : Awaited) → taskAt (ledBy l (awaitedKind a) (awaitedObject a)) ≡ f a
+      go : (a : Awaited) → taskAt (ledBy l n (awaitedKind a) (awaitedObject a)) ≡ f a
       go (mutexOf m) = told m
-      go (semOf k) = sym (no-sem k)
-      go time = sym no-time
+      go (semOf k) = sym (L .no-sem k)
+      go (roomIn q) = told-queue q
+      go (messageIn q) = sym (L .no-message q)
+      go time = sym (L .no-time)
 
   -- the owner of an inheriting mutex
   heir-code : (j : ℕ) → taskAt (getD (filled maxMutexes (heirAt (packMutexes t))) j noId) ≡ heirAwaited t (mutexOf j)
@@ -134,27 +162,29 @@ module _ (t : Tables) (F : Facts t) where
   ]
 
   -- the table of whom each task leads to, as a map
-  led-table : (l : List ℕ) (f : Awaited → Option ℕ) → ((j : ℕ) → taskAt (getD l j noId) ≡ f (mutexOf j)) → ((j : ℕ) → f (semOf j) ≡ none) → f time ≡ none
-      → (clock : ℕ) (lv : List ℕ) (i : ℕ) → nextIn (filled taskPlaces (leadsAt (putLevel (packTasks t clock) lv) l)) i ≡ ofWait f (waitOf t i)
+  led-table : (l n : List ℕ) (f : Awaited → Option ℕ) → ((j : ℕ) → taskAt (getD l j noId) ≡ f (mutexOf j)) → ((j : ℕ) → taskAt (getD n j noId) ≡ f (roomIn j)) → Leading f
+      → (clock : ℕ) (lv : List ℕ) (i : ℕ) → nextIn (filled taskPlaces (leadsAt (putLevel (packTasks t clock) lv) l n)) i ≡ ofWait f (waitOf t i)
   unfolding ofWait
-  led-table l f told no-sem no-time clock lv = filled-next _ (λ i. ofWait f (waitOf t i))
-      (λ i. rw (kind-read t clock i, object-read t clock i) (led-code l f told no-sem no-time (waitOf t i)))
+  led-table l n f told told-queue L clock lv = filled-next _ (λ i. ofWait f (waitOf t i))
+      (λ i. rw (kind-read t clock i, object-read t clock i) (led-code l n f told told-queue L (waitOf t i)))
       (λ i h. rw (wait-out t (F .wait-column) i (omega (arith, F .few-tasks))) refl)
 
-  pub next-table : (clock : ℕ) (lv : List ℕ) (i : ℕ) → nextIn (filled taskPlaces (nextAt (putLevel (packTasks t clock) lv) (packMutexes t))) i ≡ next t i
+  pub next-table : (o : List ℕ) (clock : ℕ) (lv : List ℕ) (i : ℕ) → nextIn (filled taskPlaces (nextAt (putLevel (packTasks t clock) lv) (packMutexes t) (packQueues o (t .queues)))) i ≡ next t i
   unfolding next ownerAwaited
-  next-table = led-table ((packMutexes t) .owner) (ownerAwaited t) (λ j. ap taskAt (owner-read t j) ∙ owner-back t F j) (λ j. refl) refl
+  next-table o = led-table ((packMutexes t) .owner) ((packQueues o (t .queues)) .owner) (ownerAwaited t) (λ j. ap taskAt (owner-read t j) ∙ owner-back t F j)
+      (λ j. ap taskAt (queue-owner-read t o j) ∙ queue-owner-back t F j) (record { no-sem = λ j. refl; no-message = λ j. refl; no-time = refl })
 
-  pub lends-table : (clock : ℕ) (lv : List ℕ) (i : ℕ) → nextIn (filled taskPlaces (lendsAt (putLevel (packTasks t clock) lv) (packMutexes t))) i ≡ lends t i
+  pub lends-table : (o : List ℕ) (clock : ℕ) (lv : List ℕ) (i : ℕ) → nextIn (filled taskPlaces (lendsAt (putLevel (packTasks t clock) lv) (packMutexes t) (packQueues o (t .queues)))) i ≡ lends t i
   unfolding lends heirAwaited
-  lends-table = led-table (filled maxMutexes (heirAt (packMutexes t))) (heirAwaited t) heir-code (λ j. refl) refl
+  lends-table o = led-table (filled maxMutexes (heirAt (packMutexes t))) ((packQueues o (t .queues)) .owner) (heirAwaited t) heir-code
+      (λ j. ap taskAt (queue-owner-read t o j) ∙ queue-owner-back t F j) (record { no-sem = λ j. refl; no-message = λ j. refl; no-time = refl })
 
   -- the levels that the code makes are the levels
-  levels-table : (clock : ℕ) (lv : List ℕ) → newLevels (putLevel (packTasks t clock) lv) (packMutexes t) ≡ levelColumn t
+  levels-table : (o : List ℕ) (clock : ℕ) (lv : List ℕ) → newLevels (putLevel (packTasks t clock) lv) (packMutexes t) (packQueues o (t .queues)) ≡ levelColumn t
   unfolding newLevels levelIn packTasks
-  levels-table clock lv = rw fuel (ext-getD 0 made (levelColumn t) sizes (λ i h. elim (decLt i n) [
-    | yes q ↦ raised-ext own links n (F .few-tasks) (lends t) (lends-table clock lv) i ∙ ap (λ f. leastLeading n (lends t) f i) (fun-ext (priority-read t clock)) ∙ sym (key-level t i)
-    | no q ↦ raised-out own links n (F .few-tasks) (λ k m l e. lends-ended t F .to k m (sym (lends-table clock lv k) ∙ e)) i (omega arith)
+  levels-table o clock lv = rw fuel (ext-getD 0 made (levelColumn t) sizes (λ i h. elim (decLt i n) [
+    | yes q ↦ raised-ext own links n (F .few-tasks) (lends t) (lends-table o clock lv) i ∙ ap (λ f. leastLeading n (lends t) f i) (fun-ext (priority-read t clock)) ∙ sym (key-level t i)
+    | no q ↦ raised-out own links n (F .few-tasks) (λ k m l e. lends-ended t F .to k m (sym (lends-table o clock lv k) ∙ e)) i (omega arith)
         ∙ priority-read t clock i ∙ out i (omega arith) ∙ sym (key-level t i ∙ level-out t i (omega arith))
   ]))
     where
@@ -165,7 +195,7 @@ module _ (t : Tables) (F : Facts t) where
       own = (packTasks t clock) .priority
 
       links : List ℕ
-      links = filled taskPlaces (lendsAt (putLevel (packTasks t clock) lv) (packMutexes t))
+      links = filled taskPlaces (lendsAt (putLevel (packTasks t clock) lv) (packMutexes t) (packQueues o (t .queues)))
 
       made : List ℕ
       made = raised own links n n
@@ -180,14 +210,14 @@ module _ (t : Tables) (F : Facts t) where
       out i h = List·getD-eq-default (t .tasks .priorities) 0 h
 
 module _ (s : Model) (F : Facts (s .tables)) where
-  pub next-pack : (i : ℕ) → nextIn (filled taskPlaces (nextAt ((pack s) .tasks) ((pack s) .mutexes))) i ≡ next (s .tables) i
+  pub next-pack : (o : List ℕ) (i : ℕ) → nextIn (filled taskPlaces (nextAt ((pack o s) .tasks) ((pack o s) .mutexes) ((pack o s) .queues))) i ≡ next (s .tables) i
   unfolding pack
-  next-pack = next-table (s .tables) F (s .clock) ((packTasks (s .tables) (s .clock)) .level)
+  next-pack o = next-table (s .tables) F o (s .clock) ((packTasks (s .tables) (s .clock)) .level)
 
-  pub new-levels : (lv : List ℕ) → newLevels ((packWith lv s) .tasks) ((packWith lv s) .mutexes) ≡ levelColumn (s .tables)
+  pub new-levels : (o lv : List ℕ) → newLevels ((packWith o lv s) .tasks) ((packWith o lv s) .mutexes) ((packWith o lv s) .queues) ≡ levelColumn (s .tables)
   unfolding pack packWith
-  new-levels lv = levels-table (s .tables) F (s .clock) lv
+  new-levels o lv = levels-table (s .tables) F o (s .clock) lv
 
-pub level-pack : (s : Model) (i : ℕ) → keyOf ((pack s) .tasks .level) i ≡ levelIn (s .tables) i
+pub level-pack : (s : Model) (o : List ℕ) (i : ℕ) → keyOf ((pack o s) .tasks .level) i ≡ levelIn (s .tables) i
 unfolding pack
-level-pack s i = level-read (s .tables) (s .clock) i
+level-pack s o i = level-read (s .tables) (s .clock) i

@@ -1,14 +1,18 @@
 // The record of a fresh state.
 ghost use mathlib.Core.Path.{_≡_};
-ghost use Rattle.record.specs.DemandRecord.{freshRecord};
+ghost use Rattle.record.specs.DemandRecord.{freshRecord, freshHeld};
+use crate::Held;
 use crate::MUTEXES;
 use crate::Mutexes;
 use crate::NONE;
+use crate::QUEUES;
+use crate::Queues;
 use crate::SEMAPHORES;
 use crate::Semaphores;
 use crate::State;
 use crate::TASKS;
 use crate::Tasks;
+use crate::WORDS;
 use task_lists::TaskList;
 
 // "A fresh state is in set-up, with nothing made, clock and hold 0."
@@ -39,15 +43,35 @@ pub fn fresh() -> State
         maximum: [0u32; SEMAPHORES],
         n: 0,
     };
+    let queues = Queues {
+        width: [0u8; QUEUES],
+        depth: [0u8; QUEUES],
+        owner: [NONE; QUEUES],
+        oldest: [0u8; QUEUES],
+        used: [0u8; QUEUES],
+        n: 0,
+    };
     State {
         tasks: tasks,
         semaphores: semaphores,
         clock: 0,
         mutexes: mutexes,
+        queues: queues,
         ready: none,
         waiting: none,
         started: 0,
         hold: 0,
         running: NONE,
+    }
+}
+
+// The same with the words that tasks hold, all 0.
+pub fn fresh_held() -> Held
+    ensures { λ r. ⌜ r ≡ freshHeld ⌝ }
+{
+    let first = fresh();
+    Held {
+        state: first,
+        words: [0u32; WORDS],
     }
 }

@@ -4,6 +4,7 @@ mod first;
 pub mod reads;
 
 pub use first::fresh;
+pub use first::fresh_held;
 
 // How many places each table has. A list has a place for each task.
 pub const TASKS: usize = task_lists::PLACES;
@@ -11,6 +12,13 @@ pub const TASKS: usize = task_lists::PLACES;
 pub const MUTEXES: usize = 8;
 
 pub const SEMAPHORES: usize = 8;
+
+pub const QUEUES: usize = rings::QUEUES;
+
+// How many words a task holds, and how many all of them hold.
+pub const EIGHT: usize = 8;
+
+pub const WORDS: usize = EIGHT * TASKS;
 
 // How many tasks a state may have: no more than there are places for them.
 pub const MAX_TASKS: u8 = 16;
@@ -21,6 +29,11 @@ pub const TASK_PLACES: u8 = TASKS as u8;
 pub const MAX_MUTEXES: u8 = MUTEXES as u8;
 
 pub const MAX_SEMAPHORES: u8 = SEMAPHORES as u8;
+
+pub const MAX_QUEUES: u8 = QUEUES as u8;
+
+// How many messages a queue may have room for.
+pub const MAX_DEPTH: u32 = 64;
 
 // How many priorities and levels there are.
 pub const LEVELS: u8 = task_lists::LEVELS;
@@ -36,7 +49,7 @@ pub const MAX_HOLD: u8 = 255;
 // Stands for no task.
 pub const NONE: u8 = task_lists::NONE;
 
-// What a task waits for: nothing, a mutex, a semaphore, time.
+// What a task waits for: nothing, a mutex, a semaphore, time, room in a queue, a message in it.
 pub const NO_WAIT: u8 = 0;
 
 pub const ON_MUTEX: u8 = 1;
@@ -44,6 +57,10 @@ pub const ON_MUTEX: u8 = 1;
 pub const ON_SEMAPHORE: u8 = 2;
 
 pub const ON_TIME: u8 = 3;
+
+pub const ON_SEND: u8 = 4;
+
+pub const ON_RECEIVE: u8 = 5;
 
 // The outcomes of a wait: granted (or slept), still waiting, timed out, flushed.
 pub const GRANTED: u8 = 0;
@@ -86,12 +103,25 @@ pub struct Semaphores {
     pub n: u8,
 }
 
+// The message queues. Their words lie in a lent block, in order of id, a queue's messages in a ring: `oldest` is the ring place of the oldest one,
+// and `used` says how many there are.
+#[repr(C)]
+pub struct Queues {
+    pub width: [u8; QUEUES],
+    pub depth: [u8; QUEUES],
+    pub owner: [u8; QUEUES],
+    pub oldest: [u8; QUEUES],
+    pub used: [u8; QUEUES],
+    pub n: u8,
+}
+
 #[repr(C)]
 pub struct State {
     pub tasks: Tasks,
     pub semaphores: Semaphores,
     pub clock: u32,
     pub mutexes: Mutexes,
+    pub queues: Queues,
     pub ready: task_lists::TaskList,
     pub waiting: task_lists::TaskList,
     pub started: u8,
@@ -99,7 +129,14 @@ pub struct State {
     pub running: u8,
 }
 
-// A step and its numbers.
+// The record with the words that tasks hold, eight for each. The words stand beside the record: no step moves them by value.
+#[repr(C)]
+pub struct Held {
+    pub state: State,
+    pub words: [u32; WORDS],
+}
+
+// A step and its numbers. A message stands beside its request.
 pub enum Request {
     Task { priority: u32 },
     Mutex { kind: u32 },
@@ -117,6 +154,11 @@ pub enum Request {
     Tick,
     Level { task: u32 },
     Outcome { task: u32 },
+    Queue { width: u32, depth: u32 },
+    OwnedQueue { width: u32, depth: u32, owner: u32 },
+    Send { queue: u32, time: u32 },
+    Receive { queue: u32, time: u32 },
+    Word { task: u32, n: u32 },
 }
 
 // An answer's number and value, and the task to run, or NONE.
@@ -125,7 +167,15 @@ pub enum Answer {
     Refused { number: u8, value: u32, run: u8 },
 }
 
+// The record after a step, and its answer.
 pub struct Out {
     pub state: State,
     pub answer: Answer,
+}
+
+// The same before any word is moved: what is to be moved once the step stands.
+pub struct Plan {
+    pub state: State,
+    pub answer: Answer,
+    pub moves: moves::Move,
 }

@@ -17,13 +17,13 @@ use Rattle.lists.specs.TestLaws.{clash, by-test, none-some, same-test}
 use Rattle.lists.specs.TableLaws.{snoc-default}
 use Rattle.chains.specs.Least.{leastLeading}
 use Rattle.rules.specs.Sizes.{inheriting, granted, flushed}
-use Rattle.rules.specs.Tables.{Awaited, mutexOf, semOf, time, Wait, waitFor, SemTable, Tables, withSemaphores, taskCount, mutexCount, priorityOf, waitOf, kindOf, ownerOf, countOf}
+use Rattle.rules.specs.Tables.{Awaited, mutexOf, semOf, roomIn, messageIn, time, Wait, waitFor, SemTable, Tables, withSemaphores, taskCount, mutexCount, priorityOf, waitOf, kindOf, ownerOf, countOf, messagesOf}
 use Rattle.rules.specs.Levels.{ownerAwaited, heirAwaited, ofWait, next, lends, levelIn, linksOf, waitIsFor, awaits, waitersOf, bestWaiter}
 use Rattle.rules.specs.State.{State, withTables, placed, levelOf}
-use Rattle.rules.specs.Step.{Step, task, mutex, sem, start, lock, unlock, pend, post, flush, sleep, yield, hold, free, tick, level, outcome}
-use Rattle.rules.specs.Effect.{Effect, done, addTask, addMutex, give, setCount, beginWait, endWaits, callerWaits, lockBy, passOn, pendBy, credit, flushOf, isDue, due, lessOne, age, ageAll, tickOf, yieldBy, effect}
+use Rattle.rules.specs.Step.{Step, task, mutex, sem, start, lock, unlock, pend, post, flush, sleep, yield, hold, free, tick, level, outcome, queue, send, receive, word}
+use Rattle.rules.specs.Effect.{Effect, done, addTask, addMutex, addQueue, give, setCount, setMessages, hands, beginWait, endWaits, callerWaits, lockBy, passOn, pendBy, credit, flushOf, deliver, sendBy, takeIn, receiveBy, isDue, due, lessOne, age, ageAll, tickOf, yieldBy, effect}
 use Rattle.rules.specs.Settle.{settle, meet, dispatch, finish}
-use Rattle.rules.specs.Refusal.{ofCaller, noCredit, callerOwns, refusals, firstRow}
+use Rattle.rules.specs.Refusal.{ofCaller, noCredit, noRoom, callerOwns, refusals, firstRow}
 use Rattle.rules.specs.Answer.{Answer, answerWith, answered, standing}
 use Rattle.rules.specs.Log.{Call, call}
 use Rattle.rules.specs.Invariant.{Facts, Inv}
@@ -54,6 +54,7 @@ none-told n (some w) e = none-some e refl
 pub record Matches (t : Tables) (h : Told) : Type 0 where
   pub priorities : h .priorities ≡ t .tasks .priorities
   pub kinds : h .kinds ≡ t .mutexes .kinds
+  pub queueOwners : h .queueOwners ≡ t .queues .owners
   pub owner : (m : ℕ) → h .owner m ≡ ownerOf t m
   pub wait : (i : ℕ) → asWait (h .ticks i) (h .wait i) ≡ waitOf t i
   pub order : h .order ≡ t .tasks .waiting
@@ -78,7 +79,7 @@ wait-as (some w) = ap (λ l. some (record { on = w .on; left = l })) (go (w .lef
 pub tells-agrees : (s : State) → Agrees s (toldIn s)
 unfolding toldIn
 tells-agrees s = record {
-  tables = record { priorities = refl; kinds = refl; owner = λ m. refl; wait = λ i. wait-as (waitOf (s .tables) i); order = refl };
+  tables = record { priorities = refl; kinds = refl; queueOwners = refl; owner = λ m. refl; wait = λ i. wait-as (waitOf (s .tables) i); order = refl };
   runs = refl;
   depth = refl;
   started = refl;
@@ -126,6 +127,8 @@ module _ {t : Tables} {h : Told} (A : Matches t h) where
       same : (a : Awaited) → toldOwner h a ≡ ownerAwaited t a
       same (mutexOf m) = A .owner m
       same (semOf k) = refl
+      same (roomIn q) = ap (λ l. getD l q none) (A .queueOwners)
+      same (messageIn q) = refl
       same time = refl
 
   pub lends-told : toldLends h ≡ lends t
@@ -135,6 +138,8 @@ module _ {t : Tables} {h : Told} (A : Matches t h) where
       same : (a : Awaited) → toldHeir h a ≡ heirAwaited t a
       same (mutexOf m) = ap (λ k. cond (eqb (getD k m 0) inheriting) (h .owner m) none) (A .kinds) ∙ ap (λ o. cond (eqb (kindOf t m) inheriting) o none) (A .owner m)
       same (semOf k) = refl
+      same (roomIn q) = ap (λ l. getD l q none) (A .queueOwners)
+      same (messageIn q) = refl
       same time = refl
 
   pub level-told : toldLevel h ≡ levelIn t
@@ -160,6 +165,7 @@ module _ {t : Tables} {h : Told} (A : Matches t h) where
   matches-task p k = record {
     priorities = ap (λ l. l ++ (p ∷ [])) (A .priorities);
     kinds = A .kinds;
+    queueOwners = A .queueOwners;
     owner = A .owner;
     wait = λ i. A .wait i ∙ sym (snoc-default none (t .tasks .waits) i);
     order = A .order;
@@ -170,23 +176,43 @@ module _ {t : Tables} {h : Told} (A : Matches t h) where
   matches-mutex q k = record {
     priorities = A .priorities;
     kinds = ap (λ l. l ++ (q ∷ [])) (A .kinds);
+    queueOwners = A .queueOwners;
     owner = λ m. A .owner m ∙ sym (snoc-default none (t .mutexes .owners) m);
     wait = A .wait;
     order = A .order;
   }
 
+  matches-queue : (w d : ℕ) (o : Option ℕ) (k : ℕ) → Matches (addQueue t w d o) (tells h (queue w d o) k)
+  unfolding tells
+  matches-queue w d o k = record {
+    priorities = A .priorities;
+    kinds = A .kinds;
+    queueOwners = ap (λ l. l ++ (o ∷ [])) (A .queueOwners);
+    owner = A .owner;
+    wait = A .wait;
+    order = A .order;
+  }
+
+  -- of messages and words nothing is told
+  matches-messages : (q : ℕ) (ms : List (List ℕ)) → Matches (setMessages t q ms) h
+  matches-messages q ms = record { priorities = A .priorities; kinds = A .kinds; queueOwners = A .queueOwners; owner = A .owner; wait = A .wait; order = A .order }
+
+  matches-hands : (i : ℕ) (m : List ℕ) → Matches (hands t i m) h
+  matches-hands i m = record { priorities = A .priorities; kinds = A .kinds; queueOwners = A .queueOwners; owner = A .owner; wait = A .wait; order = A .order }
+
   -- who runs, the hold depth and the phase stand beside the tables
-  matches-beside : (r : Option ℕ) (d : ℕ) (b : Bool) → Matches t (record { priorities = h .priorities; kinds = h .kinds; owner = h .owner; wait = h .wait; ticks = h .ticks; order = h .order; runs = r; depth = d; started = b })
-  matches-beside r d b = record { priorities = A .priorities; kinds = A .kinds; owner = A .owner; wait = A .wait; order = A .order }
+  matches-beside : (r : Option ℕ) (d : ℕ) (b : Bool) → Matches t (record { priorities = h .priorities; kinds = h .kinds; queueOwners = h .queueOwners; owner = h .owner; wait = h .wait; ticks = h .ticks; order = h .order; runs = r; depth = d; started = b })
+  matches-beside r d b = record { priorities = A .priorities; kinds = A .kinds; queueOwners = A .queueOwners; owner = A .owner; wait = A .wait; order = A .order }
 
   -- of semaphores nothing is told
   matches-sems : (c : SemTable) → Matches (withSemaphores t c) h
-  matches-sems c = record { priorities = A .priorities; kinds = A .kinds; owner = A .owner; wait = A .wait; order = A .order }
+  matches-sems c = record { priorities = A .priorities; kinds = A .kinds; queueOwners = A .queueOwners; owner = A .owner; wait = A .wait; order = A .order }
 
   matches-give : (m : ℕ) (o : Option ℕ) → m < mutexCount t → Matches (give t m o) (nowOwned h m o)
   matches-give m o low = record {
     priorities = A .priorities;
     kinds = A .kinds;
+    queueOwners = A .queueOwners;
     owner = λ k. elim (ℕ-discrete k m) [
       | yes e ↦ rw (e, eq-eqb m m refl) (sym (getD-set-same (t .mutexes .owners) m o none low))
       | no n ↦ rw (ne-eqb k m n) (A .owner k ∙ sym (getD-set-other (t .mutexes .owners) m k o none n))
@@ -200,6 +226,7 @@ module _ {t : Tables} {h : Told} (A : Matches t h) where
   matches-begin r a n low = record {
     priorities = A .priorities;
     kinds = A .kinds;
+    queueOwners = A .queueOwners;
     owner = A .owner;
     wait = λ i. elim (ℕ-discrete i r) [
       | yes e ↦ rw (e, eq-eqb r r refl) (wait-as (some (waitFor a n)) ∙ sym (getD-set-same (t .tasks .waits) r (some (waitFor a n)) none low))
@@ -213,6 +240,7 @@ module _ {t : Tables} {h : Told} (A : Matches t h) where
   matches-end p out = record {
     priorities = A .priorities;
     kinds = A .kinds;
+    queueOwners = A .queueOwners;
     owner = A .owner;
     wait = λ i. by-test (λ (w : Option Wait). asWait (h .ticks i) w ≡ waitOf (endWaits t p out) i) (p i)
         (λ e. sym (wait-ended t p out i ∙ rw e refl)) (λ e. A .wait i ∙ sym (wait-ended t p out i ∙ rw e refl));
@@ -225,6 +253,7 @@ module _ {t : Tables} {h : Told} (A : Matches t h) where
   matches-tick out = record {
     priorities = A .priorities;
     kinds = A .kinds;
+    queueOwners = A .queueOwners;
     owner = A .owner;
     wait = λ i. ap (λ b. asWait (h .ticks i + 1) (cond b none (h .wait i))) (ap (λ f. f i) due-told)
         ∙ (by-test (λ (w : Option Wait). asWait (h .ticks i + 1) w ≡ age (cond (due t i) none (waitOf t i))) (due t i)
@@ -276,11 +305,15 @@ module _ (s : State) (h : Told) (I : Inv s) (A : Agrees s h) where
   unfolding observe
   tells-by x e g low q T d b = rw (low, q) (finish-named g s e T d b)
 
-  -- the caller begins to wait
-  wait-told : (x : Step) (a : Awaited) (t r links : ℕ) → s .running ≡ some r → tells h x 1 ≡ begins h a t (h .runs) → After x (callerWaits s r a t links)
+  -- the caller begins to wait, with tables that match what is told
+  wait-with : (T : Tables) → Matches T h → length (T .tasks .waits) ≡ taskCount (s .tables) → (x : Step) (a : Awaited) (t r links : ℕ) → s .running ≡ some r
+      → tells h x 1 ≡ begins h a t (h .runs) → After x (callerWaits (withTables s T) r a t links)
   unfolding callerWaits begins
-  wait-told x a t r links run q = tells-by x (callerWaits s r a t links) (begins h a t (some r)) refl (q ∙ ap (begins h a t) (A .runs ∙ run))
-      (matches-begin (A .tables) r a t (omega (arith, I .facts .wait-column, caller-in s I r run))) (A .depth) (A .started)
+  wait-with T M n x a t r links run q = tells-by x (callerWaits (withTables s T) r a t links) (begins h a t (some r)) refl (q ∙ ap (begins h a t) (A .runs ∙ run))
+      (matches-begin M r a t (omega (arith, n, caller-in s I r run))) (A .depth) (A .started)
+
+  wait-told : (x : Step) (a : Awaited) (t r links : ℕ) → s .running ≡ some r → tells h x 1 ≡ begins h a t (h .runs) → After x (callerWaits s r a t links)
+  wait-told = wait-with (s .tables) (A .tables) (I .facts .wait-column)
 
   lock-told : (m t r : ℕ) (o : Option ℕ) → s .running ≡ some r → m < mutexCount (s .tables) → After (lock m t) (lockBy s m t r o)
   unfolding lockBy tells
@@ -310,6 +343,30 @@ module _ (s : State) (h : Told) (I : Inv s) (A : Agrees s h) where
   pend-told k t r run = by-test (After (pend k t)) (noCredit s k) (λ e. wait-told (pend k t) (semOf k) t r 0 run refl)
       (λ e. tells-by (pend k t) (done (withTables s (setCount (s .tables) k (countOf (s .tables) k - 1))) [] 0) h refl refl (matches-sems (A .tables) _) (A .depth) (A .started))
 
+  deliver-told : (q t : ℕ) (m : List ℕ) (o : Option ℕ) → toldBest h (messageIn q) ≡ o → After (send q t m) (deliver s q m o)
+  unfolding deliver tells endsOf endsWhere
+  deliver-told q t m none e = tells-by (send q t m) (deliver s q m none) h refl (ap (endsOf h) e) (matches-messages (A .tables) q _) (A .depth) (A .started)
+  deliver-told q t m (some w) e = tells-by (send q t m) (deliver s q m (some w)) (endsWhere h (eqb w)) refl (ap (endsOf h) e)
+      (matches-hands (matches-end (A .tables) (eqb w) (λ i. granted)) w m) (A .depth) (A .started)
+
+  send-told : (q t r : ℕ) (m : List ℕ) → s .running ≡ some r → After (send q t m) (sendBy s q t m r)
+  unfolding sendBy tells
+  send-told q t r m run = by-test (After (send q t m)) (noRoom s q)
+      (λ e. wait-with (hands (s .tables) r m) (matches-hands (A .tables) r m) (I .facts .wait-column) (send q t m) (roomIn q) t r (linksOf (s .tables) r (roomIn q)) run refl)
+      (λ e. deliver-told q t m (bestWaiter (s .tables) (messageIn q)) (best-told (A .tables) (I .facts) (messageIn q)))
+
+  take-told : (q t r : ℕ) (m : List ℕ) (ms : List (List ℕ)) (o : Option ℕ) → toldBest h (roomIn q) ≡ o → After (receive q t) (takeIn s q r m ms o)
+  unfolding takeIn tells endsOf endsWhere
+  take-told q t r m ms none e = tells-by (receive q t) (takeIn s q r m ms none) h refl (ap (endsOf h) e)
+      (matches-hands (matches-messages (A .tables) q ms) r m) (A .depth) (A .started)
+  take-told q t r m ms (some w) e = tells-by (receive q t) (takeIn s q r m ms (some w)) (endsWhere h (eqb w)) refl (ap (endsOf h) e)
+      (matches-hands (matches-messages (matches-end (A .tables) (eqb w) (λ i. granted)) q _) r m) (A .depth) (A .started)
+
+  receive-told : (q t r : ℕ) (ms : List (List ℕ)) → s .running ≡ some r → After (receive q t) (receiveBy s q t r ms)
+  unfolding receiveBy tells
+  receive-told q t r [] run = wait-told (receive q t) (messageIn q) t r 0 run refl
+  receive-told q t r (m ∷ ms) run = take-told q t r m ms (bestWaiter (s .tables) (roomIn q)) (best-told (A .tables) (I .facts) (roomIn q))
+
   accept-told : (x : Step) → firstRow (refusals s x) ≡ none → After x (effect s x)
   unfolding effect refusals tells flushOf tickOf yieldBy endsWhere ticked
   accept-told (task p) e = tells-by (task p) (effect s (task p)) (tells h (task p) 0) refl refl (matches-task (A .tables) p 0) (A .depth) (A .started)
@@ -335,10 +392,14 @@ module _ (s : State) (h : Told) (I : Inv s) (A : Agrees s h) where
   accept-told tick e = tells-by tick (tickOf s) (ticked h) refl refl (matches-tick (A .tables) _) (A .depth) (A .started)
   accept-told (level i) e = tells-by (level i) (effect s (level i)) h refl refl (A .tables) (A .depth) (A .started)
   accept-told (outcome i) e = tells-by (outcome i) (effect s (outcome i)) h refl refl (A .tables) (A .depth) (A .started)
+  accept-told (queue w d o) e = tells-by (queue w d o) (effect s (queue w d o)) (tells h (queue w d o) 0) refl refl (matches-queue (A .tables) w d o 0) (A .depth) (A .started)
+  accept-told (send q t m) e = called-by (After (send q t m)) s (s .running) _ (passed _ _ (passed _ _ e .1) .0) (λ r run. send-told q t r m run)
+  accept-told (receive q t) e = called-by (After (receive q t)) s (s .running) _ (passed _ _ (passed _ _ e .1) .0) (λ r run. receive-told q t r (messagesOf (s .tables) q) run)
+  accept-told (word i n) e = tells-by (word i n) (effect s (word i n)) h refl refl (A .tables) (A .depth) (A .started)
 
   -- after every call the state is as told
   pub call-agrees : (c : Call) → AsTold (c .made) (call s c)
   call-agrees c = call-by (AsTold (c .made)) s c (step-by (AsTold (c .made)) s (c .made)
       (λ r e. again (c .made) (r .number) (r .value) (s .running) (refused-above (r .number) (refused-number s (c .made) r e)) refl)
-      (accept-told (c .made)) (λ e. absurd (clash (inv-sound s I) e)))
+      (accept-told (c .made)) (λ e. absurd (clash (inv-sound s I) e)) (λ e. again (c .made) 14 0 (standing s) (omega arith) (sound-stands s I)))
       (again (c .made) 8 0 (standing s) (omega arith) (sound-stands s I))

@@ -15,7 +15,7 @@ use Rattle.rules.specs.Log.{logLine, Call, call}
 use Rattle.rules.specs.History.{Event, Told, tasksMade, ownPriority, toldNext, toldLends, toldFrom}
 
 -- "A task's chain of waits on inheriting mutexes leads to the owner of the inheriting mutex for which it waits, and to all tasks to which
--- that owner's such chain leads."
+-- that owner's such chain leads."; document 02, K1: "demand 3 read[s] a sender's wait" on an owned queue "as one on an inheriting mutex"
 pub data Leads (h : Told) : ℕ → ℕ → Type 0 where
   to-owner : {i j : ℕ} → toldLends h i ≡ some j → Leads h i j
   through : {i j k : ℕ} → toldLends h i ≡ some j → Leads h j k → Leads h i k
@@ -82,6 +82,7 @@ unfoldable pub toldIn : State → Told
 toldIn s = record {
   priorities = s .tables .tasks .priorities;
   kinds = s .tables .mutexes .kinds;
+  queueOwners = s .tables .queues .owners;
   owner = ownerOf (s .tables);
   wait = waitOf (s .tables);
   ticks = λ i. 0;
@@ -98,6 +99,6 @@ told s es = toldFrom (toldIn s) es
 abbrev pub Demand-3-from : State → Type 0
 Demand-3-from s = (cs : List Call) → (told s (events s cs)) .started ≡ true → Demand (told s (events s cs)) (call (after s cs))
 
--- and from a fresh state
+-- and from a fresh state, whatever block is lent
 abbrev pub Demand-3 : Type 0
-Demand-3 = Demand-3-from fresh
+Demand-3 = (space : ℕ) → Demand-3-from (fresh space)

@@ -21,7 +21,7 @@ use Rattle.rules.specs.Effect.{done, effect}
 use Rattle.rules.specs.Settle.{finish}
 use Rattle.rules.specs.Refusal.{refusals, firstRow}
 use Rattle.rules.specs.Sound.{waitCount, soundb}
-use Rattle.rules.specs.Answer.{Answer, answered, decide, stepSound, step}
+use Rattle.rules.specs.Answer.{Answer, answered, decide, stepSound, malformed, isFormed, step}
 use Rattle.rules.specs.Log.{logLine, withRoom, Call, inRoom, call}
 use Rattle.rules.specs.Invariant.{Started, Inv}
 use Rattle.rules.specs.LevelLaws.{lends-ended}
@@ -34,8 +34,9 @@ use Rattle.rules.specs.AgreeLaws.{asWait, Agrees, none-told, tells-agree
 
 -- a call keeps a sound state sound
 pub call-inv : (s : State) → Inv s → (c : Call) → Inv ((call s c) .state)
-unfolding step
-call-inv s I c = call-by (λ a. Inv (a .state)) s c (by-test (λ (a : Answer). Inv (a .state)) (soundb s) (λ e. step-inv s I (c .made)) (λ e. I)) I
+unfolding step malformed
+call-inv s I c = call-by (λ a. Inv (a .state)) s c (by-test (λ (a : Answer). Inv (a .state)) (isFormed (c .made))
+    (λ f. by-test (λ (a : Answer). Inv (a .state)) (soundb s) (λ e. step-inv s I (c .made)) (λ e. I)) (λ f. I)) I
 
 -- a chain in the words of demand 3, and of its definition
 module _ (h : Told) where
@@ -56,7 +57,7 @@ module _ (h : Told) where
 
 -- `level` is accepted for a task of a sound state, and its value is the level
 level-answer : (s : State) → Inv s → (i : ℕ) → i < taskCount (s .tables) → step s (level i) ≡ answered (finish s (done s [] (levelOf s i))) 0 (levelOf s i)
-unfolding step stepSound decide refusals firstRow effect
+unfolding step isFormed stepSound decide refusals firstRow effect
 level-answer s I i h = rw (inv-sound s I, lt-leb (taskCount (s .tables)) i h) refl
 
 module _ (s : State) (h : Told) (I : Inv s) (A : Agrees s h) where
@@ -131,4 +132,4 @@ demand-3-from s e cs =
 
 -- and from a fresh state with an accepted start
 pub demand-3 : Demand-3
-demand-3 = demand-3-from fresh (inv-sound fresh fresh-inv)
+demand-3 space = demand-3-from (fresh space) (inv-sound (fresh space) (fresh-inv space))

@@ -4,15 +4,15 @@ use mathlib.Core.Bool.{Bool, true, false, cond, not}
 use mathlib.Core.Option.{Option, none, some}
 use Prim.Native.Nat.{ℕ, _+_, _-_, _%_}
 use lib.Dec.{eqb}
-use lib.ListN.{set}
+use lib.ListN.{length, set, getD, take}
 use Rattle.lists.specs.Test.{holds}
 use Rattle.lists.specs.Order.{keep}
-use Rattle.lists.specs.Table.{putWhere}
-use Rattle.rules.specs.Sizes.{wordSize, granted, pending, timedOut, flushed}
-use Rattle.rules.specs.Tables.{Awaited, mutexOf, semOf, time, isSleep, Wait, waitFor, Tables, withTasks, withMutexes, withSemaphores, taskCount, mutexCount, semCount, outcomeOf, waitOf, ownerOf, countOf}
+use Rattle.lists.specs.Table.{putWhere, pad}
+use Rattle.rules.specs.Sizes.{wordSize, heldWords, granted, pending, timedOut, flushed}
+use Rattle.rules.specs.Tables.{Awaited, mutexOf, semOf, roomIn, messageIn, time, isSleep, Wait, waitFor, Tables, withTasks, withMutexes, withSemaphores, withQueues, taskCount, mutexCount, semCount, queueCount, outcomeOf, waitOf, wordsOf, ownerOf, countOf, widthOf, depthOf, messagesOf}
 use Rattle.rules.specs.Levels.{linksOf, awaits, bestWaiter}
 use Rattle.rules.specs.State.{State, withTables, withStarted, withClock, withHold, placed, levelOf}
-use Rattle.rules.specs.Step.{Step, task, mutex, sem, start, lock, unlock, pend, post, flush, sleep, yield, hold, free, tick, level, outcome}
+use Rattle.rules.specs.Step.{Step, task, mutex, sem, start, lock, unlock, pend, post, flush, sleep, yield, hold, free, tick, level, outcome, queue, send, receive, word}
 
 -- the state after the effect, the tasks that became ready in it, and the answer's number and value
 pub record Effect : Type 0 where
@@ -24,12 +24,17 @@ pub record Effect : Type 0 where
 abbrev pub done : State → List ℕ → ℕ → Effect
 done s woken value = record { state = s; woken = woken; number = 0; value = value }
 
+-- a message as a task holds it: "the rest 0". At first a task holds eight words 0.
+unfoldable pub heldFor : List ℕ → List ℕ
+heldFor m = pad heldWords 0 m
+
 -- creation: one more place in each column
 abbrev pub addTask : Tables → ℕ → Tables
 addTask t p = withTasks t (record {
   priorities = t .tasks .priorities ++ (p ∷ []);
   outcomes = t .tasks .outcomes ++ (granted ∷ []);
   waits = t .tasks .waits ++ (none ∷ []);
+  words = t .tasks .words ++ (heldFor [] ∷ []);
   waiting = t .tasks .waiting;
 })
 
@@ -39,6 +44,16 @@ addMutex t k = withMutexes t (record { kinds = t .mutexes .kinds ++ (k ∷ []); 
 abbrev pub addSem : Tables → ℕ → ℕ → Tables
 addSem t count max = withSemaphores t (record { counts = t .semaphores .counts ++ (count ∷ []); maxima = t .semaphores .maxima ++ (max ∷ []) })
 
+-- "Queues fill the block in order of id": a new one stands behind the others, and is empty
+abbrev pub addQueue : Tables → ℕ → ℕ → Option ℕ → Tables
+addQueue t w d o = withQueues t (record {
+  widths = t .queues .widths ++ (w ∷ []);
+  depths = t .queues .depths ++ (d ∷ []);
+  owners = t .queues .owners ++ (o ∷ []);
+  messages = t .queues .messages ++ ([] ∷ []);
+  space = t .queues .space;
+})
+
 -- m becomes o's, or free
 abbrev pub give : Tables → ℕ → Option ℕ → Tables
 give t m o = withMutexes t (record { kinds = t .mutexes .kinds; owners = set (t .mutexes .owners) m o })
@@ -46,9 +61,29 @@ give t m o = withMutexes t (record { kinds = t .mutexes .kinds; owners = set (t 
 abbrev pub setCount : Tables → ℕ → ℕ → Tables
 setCount t k n = withSemaphores t (record { counts = set (t .semaphores .counts) k n; maxima = t .semaphores .maxima })
 
+-- q's messages become ms
+abbrev pub setMessages : Tables → ℕ → List (List ℕ) → Tables
+setMessages t q ms = withQueues t (record {
+  widths = t .queues .widths;
+  depths = t .queues .depths;
+  owners = t .queues .owners;
+  messages = set (t .queues .messages) q ms;
+  space = t .queues .space;
+})
+
+-- i holds a message
+abbrev pub hands : Tables → ℕ → List ℕ → Tables
+hands t i m = withTasks t (record {
+  priorities = t .tasks .priorities;
+  outcomes = t .tasks .outcomes;
+  waits = t .tasks .waits;
+  words = set (t .tasks .words) i (heldFor m);
+  waiting = t .tasks .waiting;
+})
+
 -- the waits, their order and the outcomes change; priorities never do
 abbrev pub withWaits : Tables → List (Option Wait) → List ℕ → List ℕ → Tables
-withWaits t waits waiting outcomes = withTasks t (record { priorities = t .tasks .priorities; outcomes = outcomes; waits = waits; waiting = waiting })
+withWaits t waits waiting outcomes = withTasks t (record { priorities = t .tasks .priorities; outcomes = outcomes; waits = waits; words = t .tasks .words; waiting = waiting })
 
 -- "A task that begins to wait gets outcome 1."
 abbrev pub beginWait : Tables → ℕ → Wait → Tables
@@ -93,6 +128,38 @@ credit s k (some w) = done (withTables s (endWaits (s .tables) (eqb w) (λ i. gr
 -- "flush s: from either; every waiter becomes ready with outcome 21; the count stays."
 unfoldable pub flushOf : State → ℕ → Effect
 flushOf s k = done (withTables s (endWaits (s .tables) (awaits (s .tables) (semOf k)) (λ i. flushed))) (ended (s .tables) (awaits (s .tables) (semOf k))) 0
+
+-- q has as many messages as it has room for
+abbrev pub isFull : Tables → ℕ → Bool
+isFull t q = eqb (length (messagesOf t q)) (depthOf t q)
+
+-- "A message goes to the best waiting receiver, else to the tail"
+unfoldable pub deliver : State → ℕ → List ℕ → Option ℕ → Effect
+deliver s q m none = done (withTables s (setMessages (s .tables) q (messagesOf (s .tables) q ++ (m ∷ [])))) [] 0
+deliver s q m (some w) = done (withTables s (hands (endWaits (s .tables) (eqb w) (λ i. granted)) w m)) (ended (s .tables) (eqb w)) 0
+
+-- a send that meets a full queue waits, its words held; a full queue has no waiting receiver
+unfoldable pub sendBy : State → ℕ → ℕ → List ℕ → ℕ → Effect
+sendBy s q t m r = cond (isFull (s .tables) q)
+    (callerWaits (withTables s (hands (s .tables) r m)) r (roomIn q) t (linksOf (s .tables) r (roomIn q)))
+    (deliver s q m (bestWaiter (s .tables) (messageIn q)))
+
+-- the message that a waiting sender holds
+abbrev pub sentBy : Tables → ℕ → ℕ → List ℕ
+sentBy t q w = take (widthOf t q) (wordsOf t w)
+
+-- "a receive that makes room takes in the best waiting sender's message": m is the oldest, ms are the others
+unfoldable pub takeIn : State → ℕ → ℕ → List ℕ → List (List ℕ) → Option ℕ → Effect
+takeIn s q r m ms none = done (withTables s (hands (setMessages (s .tables) q ms) r m)) [] 0
+takeIn s q r m ms (some w) = done
+    (withTables s (hands (setMessages (endWaits (s .tables) (eqb w) (λ i. granted)) q (ms ++ (sentBy (s .tables) q w ∷ []))) r m))
+    (ended (s .tables) (eqb w))
+    0
+
+-- a receive takes the oldest message, or waits for one
+unfoldable pub receiveBy : State → ℕ → ℕ → ℕ → List (List ℕ) → Effect
+receiveBy s q t r [] = callerWaits s r (messageIn q) t 0
+receiveBy s q t r (m ∷ ms) = takeIn s q r m ms (bestWaiter (s .tables) (roomIn q))
 
 -- the wait has one tick left
 unfoldable pub isDue : Option Wait → Bool
@@ -152,3 +219,7 @@ effect s free = done (withHold s (s .hold - 1)) [] 0
 effect s tick = tickOf s
 effect s (level i) = done s [] (levelOf s i)
 effect s (outcome i) = done s [] (outcomeOf (s .tables) i)
+effect s (queue w d o) = done (withTables s (addQueue (s .tables) w d o)) [] (queueCount (s .tables))
+effect s (send q t m) = called s (s .running) (sendBy s q t m)
+effect s (receive q t) = called s (s .running) (λ r. receiveBy s q t r (messagesOf (s .tables) q))
+effect s (word i n) = done s [] (getD (wordsOf (s .tables) i) n 0)

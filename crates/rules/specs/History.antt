@@ -9,9 +9,9 @@ use Rattle.lists.specs.Test.{holds}
 use Rattle.lists.specs.Order.{keep, leastFirst}
 use Rattle.chains.specs.Least.{leastLeading}
 use Rattle.rules.specs.Sizes.{inheriting}
-use Rattle.rules.specs.Tables.{Awaited, mutexOf, semOf, time, Wait, waitFor}
+use Rattle.rules.specs.Tables.{Awaited, mutexOf, semOf, roomIn, messageIn, time, Wait, waitFor}
 use Rattle.rules.specs.Levels.{ofWait, waitIsFor}
-use Rattle.rules.specs.Step.{Step, task, mutex, sem, start, lock, unlock, pend, post, flush, sleep, yield, hold, free, tick, level, outcome}
+use Rattle.rules.specs.Step.{Step, task, mutex, sem, start, lock, unlock, pend, post, flush, sleep, yield, hold, free, tick, level, outcome, queue, send, receive, word}
 use Rattle.rules.specs.Refusal.{ofCaller}
 
 -- an event: the step, the answer's number, and the task to run
@@ -26,6 +26,8 @@ pub record Told : Type 0 where
   pub priorities : List ℕ
   -- each mutex's kind is the one it was made with
   pub kinds : List ℕ
+  -- each queue's owner, or none, is the one it was made with
+  pub queueOwners : List (Option ℕ)
   -- "It owns a mutex from the lock or unlock that gives it the mutex until its own accepted unlock of it."
   pub owner : ℕ → Option ℕ
   -- "It waits from a step of its own answered 1 until a step ends that wait.": the wait as it began
@@ -52,11 +54,15 @@ ownPriority h i = getD (h .priorities) i 0
 unfoldable pub toldOwner : Told → Awaited → Option ℕ
 toldOwner h (mutexOf m) = h .owner m
 toldOwner h (semOf k) = none
+toldOwner h (roomIn q) = getD (h .queueOwners) q none
+toldOwner h (messageIn q) = none
 toldOwner h time = none
 
 unfoldable pub toldHeir : Told → Awaited → Option ℕ
 toldHeir h (mutexOf m) = cond (eqb (getD (h .kinds) m 0) inheriting) (h .owner m) none
 toldHeir h (semOf k) = none
+toldHeir h (roomIn q) = getD (h .queueOwners) q none
+toldHeir h (messageIn q) = none
 toldHeir h time = none
 
 -- the owner of what i waits for, and who is lent the level of i
@@ -79,14 +85,14 @@ abbrev pub at : {A : Type 0} → ℕ → A → (ℕ → A) → ℕ → A
 at k x f i = cond (eqb i k) x (f i)
 
 -- setters: what was made; what stands beside the tables; who owns and who waits
-abbrev pub toldMade : Told → List ℕ → List ℕ → Told
-toldMade h p k = record { priorities = p; kinds = k; owner = h .owner; wait = h .wait; ticks = h .ticks; order = h .order; runs = h .runs; depth = h .depth; started = h .started }
+abbrev pub toldMade : Told → List ℕ → List ℕ → List (Option ℕ) → Told
+toldMade h p k q = record { priorities = p; kinds = k; queueOwners = q; owner = h .owner; wait = h .wait; ticks = h .ticks; order = h .order; runs = h .runs; depth = h .depth; started = h .started }
 
 abbrev pub toldBeside : Told → Option ℕ → ℕ → Bool → Told
-toldBeside h r d b = record { priorities = h .priorities; kinds = h .kinds; owner = h .owner; wait = h .wait; ticks = h .ticks; order = h .order; runs = r; depth = d; started = b }
+toldBeside h r d b = record { priorities = h .priorities; kinds = h .kinds; queueOwners = h .queueOwners; owner = h .owner; wait = h .wait; ticks = h .ticks; order = h .order; runs = r; depth = d; started = b }
 
 abbrev pub toldHeld : Told → (ℕ → Option ℕ) → (ℕ → Option Wait) → (ℕ → ℕ) → List ℕ → Told
-toldHeld h o w n l = record { priorities = h .priorities; kinds = h .kinds; owner = o; wait = w; ticks = n; order = l; runs = h .runs; depth = h .depth; started = h .started }
+toldHeld h o w n l = record { priorities = h .priorities; kinds = h .kinds; queueOwners = h .queueOwners; owner = o; wait = w; ticks = n; order = l; runs = h .runs; depth = h .depth; started = h .started }
 
 abbrev pub nowOwned : Told → ℕ → Option ℕ → Told
 nowOwned h m o = toldHeld h (at m o (h .owner)) (h .wait) (h .ticks) (h .order)
@@ -122,8 +128,8 @@ handsOver h m w = nowOwned (endsOf h w) m w
 
 -- what an accepted step tells, by its answer's number
 unfoldable pub tells : Told → Step → ℕ → Told
-tells h (task p) k = toldMade h (h .priorities ++ (p ∷ [])) (h .kinds)
-tells h (mutex q) k = toldMade h (h .priorities) (h .kinds ++ (q ∷ []))
+tells h (task p) k = toldMade h (h .priorities ++ (p ∷ [])) (h .kinds) (h .queueOwners)
+tells h (mutex q) k = toldMade h (h .priorities) (h .kinds ++ (q ∷ [])) (h .queueOwners)
 tells h (sem count max) k = h
 tells h start k = toldBeside h (h .runs) (h .depth) true
 tells h (lock m t) k = cond (eqb k 1) (begins h (mutexOf m) t (h .runs)) (nowOwned h m (h .runs))
@@ -138,6 +144,10 @@ tells h free k = toldBeside h (h .runs) (h .depth - 1) (h .started)
 tells h tick k = ticked h
 tells h (level i) k = h
 tells h (outcome i) k = h
+tells h (queue w d o) k = toldMade h (h .priorities) (h .kinds) (h .queueOwners ++ (o ∷ []))
+tells h (send q t m) k = cond (eqb k 1) (begins h (roomIn q) t (h .runs)) (endsOf h (toldBest h (messageIn q)))
+tells h (receive q t) k = cond (eqb k 1) (begins h (messageIn q) t (h .runs)) (endsOf h (toldBest h (roomIn q)))
+tells h (word i n) k = h
 
 abbrev pub nowRuns : Told → Option ℕ → Told
 nowRuns h r = toldBeside h r (h .depth) (h .started)

@@ -17,7 +17,7 @@ use Rattle.chains.specs.Least.{Recursive}
 use Rattle.chains.specs.ChainLaws.{walk-none, walk-is-chain, walk-short, ends-drop}
 use Rattle.chains.specs.LeastLaws.{leading-att, leading-recursive, leading-only}
 use Rattle.rules.specs.Sizes.{levels, inheriting}
-use Rattle.rules.specs.Tables.{Awaited, mutexOf, semOf, time, Wait, Tables, taskCount, priorityOf, waitOf, kindOf, ownerOf}
+use Rattle.rules.specs.Tables.{Awaited, mutexOf, semOf, roomIn, messageIn, time, Wait, Tables, taskCount, priorityOf, waitOf, kindOf, ownerOf, queueOwnerOf}
 use Rattle.rules.specs.Levels.{ownerAwaited, heirAwaited, ofWait, next, lends, levelIn, chainOf, linksOf, closesRing}
 use Rattle.rules.specs.Invariant.{Facts}
 
@@ -36,11 +36,13 @@ unfolding ofWait
 of-wait f none j e = none-some refl e
 of-wait f (some w) j e = (w .on, e)
 
--- the owner of what is awaited owns a mutex
-pub owner-awaited : (t : Tables) (a : Awaited) (j : ℕ) → ownerAwaited t a ≡ some j → (m : ℕ) × (ownerOf t m ≡ some j)
+-- the owner of what is awaited owns a mutex or a queue
+pub owner-awaited : (t : Tables) (a : Awaited) (j : ℕ) → ownerAwaited t a ≡ some j → ((m : ℕ) × (ownerOf t m ≡ some j)) ⊎ ((q : ℕ) × (queueOwnerOf t q ≡ some j))
 unfolding ownerAwaited
-owner-awaited t (mutexOf m) j e = (m, e)
+owner-awaited t (mutexOf m) j e = inl (m, e)
 owner-awaited t (semOf k) j e = none-some refl e
+owner-awaited t (roomIn q) j e = inr (q, e)
+owner-awaited t (messageIn q) j e = none-some refl e
 owner-awaited t time j e = none-some refl e
 
 -- the inheriting waits are among the waits
@@ -48,6 +50,8 @@ heir-or : (t : Tables) (a : Awaited) → (heirAwaited t a ≡ ownerAwaited t a) 
 unfolding heirAwaited ownerAwaited
 heir-or t (mutexOf m) = by-test (λ (q : Option ℕ). (q ≡ ownerOf t m) ⊎ (q ≡ none)) (eqb (kindOf t m) inheriting) (λ e. inl refl) (λ e. inr refl)
 heir-or t (semOf k) = inr refl
+heir-or t (roomIn q) = inl refl
+heir-or t (messageIn q) = inr refl
 heir-or t time = inr refl
 
 -- what nobody owns lends to nobody
@@ -68,7 +72,7 @@ lend-next t i j e = elim (lend-or t i) [ inl q ↦ sym q ∙ e | inr q ↦ none-
 module _ (t : Tables) (F : Facts t) where
   -- the owner of what is awaited is a task
   pub awaited-owner : (a : Awaited) (o : ℕ) → ownerAwaited t a ≡ some o → o < taskCount t
-  awaited-owner a o e = let r = owner-awaited t a o e in F .owners (r .0) o (r .1)
+  awaited-owner a o e = elim (owner-awaited t a o e) [ inl r ↦ F .owners (r .0) o (r .1) | inr r ↦ F .queue-owners (r .0) o (r .1) ]
 
   -- a wait leads to a task, the waiter is a task, and every chain of waits ends
   pub next-ended : Ended (taskCount t) (next t)

@@ -1,4 +1,4 @@
--- Level, chain of a mutex, links, waiters and best waiter: all that follows from the tables.
+-- Level, chain of a mutex or queue, links, waiters and best waiter: all that follows from the tables.
 use mathlib.Core.List.{List}
 use mathlib.Core.Bool.{Bool, false, cond}
 use mathlib.Core.Option.{Option, none, some}
@@ -11,18 +11,23 @@ use Rattle.lists.specs.Order.{keep, firstFrom, before}
 use Rattle.chains.specs.Chain.{walk}
 use Rattle.chains.specs.Least.{leastLeading}
 use Rattle.rules.specs.Sizes.{levels, inheriting}
-use Rattle.rules.specs.Tables.{Awaited, mutexOf, semOf, time, awaitedKind, awaitedObject, Wait, Tables, taskCount, priorityOf, waitOf, kindOf, ownerOf}
+use Rattle.rules.specs.Tables.{Awaited, mutexOf, semOf, roomIn, messageIn, time, awaitedKind, awaitedObject, Wait, Tables, taskCount, priorityOf, waitOf, kindOf, ownerOf, queueOwnerOf}
 
--- the owner of what is awaited: a mutex has one, of whatever kind it is
+-- the owner of what is awaited: a mutex has one, of whatever kind it is. Document 02, K1: "chains, rings, links (send's too) and demand 3 read a
+-- sender's wait" on an owned queue "as one on an inheriting mutex"
 unfoldable pub ownerAwaited : Tables → Awaited → Option ℕ
 ownerAwaited t (mutexOf m) = ownerOf t m
 ownerAwaited t (semOf k) = none
+ownerAwaited t (roomIn q) = queueOwnerOf t q
+ownerAwaited t (messageIn q) = none
 ownerAwaited t time = none
 
--- who is lent the level of a task that waits for it: the owner of an inheriting mutex
+-- who is lent the level of a task that waits for it: the owner of an inheriting mutex, or of the queue that it waits to send to
 unfoldable pub heirAwaited : Tables → Awaited → Option ℕ
 heirAwaited t (mutexOf m) = cond (eqb (kindOf t m) inheriting) (ownerOf t m) none
 heirAwaited t (semOf k) = none
+heirAwaited t (roomIn q) = queueOwnerOf t q
+heirAwaited t (messageIn q) = none
 heirAwaited t time = none
 
 -- whom a wait leads to, by what is awaited

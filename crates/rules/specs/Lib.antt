@@ -13,8 +13,10 @@ pub mod Log
 pub mod Invariant
 pub mod LevelLaws
 pub mod FactsLaws
+pub mod QueueLaws
 pub mod SettleLaws
 pub mod WaiterLaws
+pub mod MessageLaws
 pub mod CreationLaws
 pub mod StepLaws
 pub mod SoundLaws

@@ -14,13 +14,13 @@ use Rattle.lists.specs.Test.{_and_}
 use Rattle.lists.specs.TestLaws.{which, clash, by-test, none-some}
 use Rattle.lists.specs.TableLaws.{snoc-default, getD-edit}
 use Rattle.rules.specs.Sizes.{granted, pending, flushed}
-use Rattle.rules.specs.Tables.{Awaited, mutexOf, semOf, time, Wait, Tables, taskCount, outcomeOf, waitOf, ownerOf, waitFor}
+use Rattle.rules.specs.Tables.{Awaited, mutexOf, semOf, roomIn, messageIn, time, Wait, Tables, taskCount, outcomeOf, waitOf, ownerOf, messagesOf, waitFor}
 use Rattle.rules.specs.Levels.{awaits, bestWaiter}
 use Rattle.rules.specs.State.{State, levelOf}
-use Rattle.rules.specs.Step.{Step, task, mutex, sem, start, lock, unlock, pend, post, flush, sleep, yield, hold, free, tick, level, outcome}
-use Rattle.rules.specs.Effect.{Effect, beginWait, endWaits, callerWaits, lockBy, passOn, pendBy, credit, flushOf, due, outcomeDue, tickOf, yieldBy, effect}
+use Rattle.rules.specs.Step.{Step, task, mutex, sem, start, lock, unlock, pend, post, flush, sleep, yield, hold, free, tick, level, outcome, queue, send, receive, word}
+use Rattle.rules.specs.Effect.{Effect, beginWait, endWaits, callerWaits, lockBy, passOn, pendBy, credit, flushOf, deliver, sendBy, takeIn, receiveBy, due, outcomeDue, tickOf, yieldBy, effect}
 use Rattle.rules.specs.Settle.{settle, meet, dispatch, finish}
-use Rattle.rules.specs.Refusal.{noCredit, refusals, firstRow}
+use Rattle.rules.specs.Refusal.{noCredit, noRoom, refusals, firstRow}
 use Rattle.rules.specs.Sound.{waitCount}
 use Rattle.rules.specs.Answer.{step}
 use Rattle.rules.specs.Invariant.{Facts, Inv}
@@ -36,7 +36,7 @@ meet-tables s r [] = refl
 meet-tables s none (x ∷ l) = refl
 meet-tables s (some r) (x ∷ l) = by-test (λ (z : State). z .tables ≡ s .tables) (eqb (s .hold) 0 and ltb (levelOf s x) (levelOf s r)) (λ e. refl) (λ e. refl)
 
-finish-tables : (s : State) (e : Effect) → (finish s e) .tables ≡ e .state .tables
+pub finish-tables : (s : State) (e : Effect) → (finish s e) .tables ≡ e .state .tables
 unfolding finish dispatch
 finish-tables s e = by-test (λ (z : State). z .tables ≡ e .state .tables) (e .state .started)
     (λ q. meet-tables (settle (levelOf s) (e .state) (e .woken)) (e .state .running) _) (λ q. refl)
@@ -78,6 +78,26 @@ module _ (s : State) (I : Inv s) (i : ℕ) (h : i < taskCount (s .tables)) (idle
   best-stays a w e = end-stays (s .tables) (I .facts) i (eqb w) (λ j. granted) h
       (λ q. awaits-waits (waitOf (s .tables) i) a (ap (awaits (s .tables) a) (sym (eqb-true w i q)) ∙ best-waits (s .tables) (I .facts) a w e)) idle
 
+  deliver-leaves : (q : ℕ) (m : List ℕ) (o : Option ℕ) → bestWaiter (s .tables) (messageIn q) ≡ o → Leaves (deliver s q m o)
+  unfolding deliver
+  deliver-leaves q m none e = λ after. refl
+  deliver-leaves q m (some w) e = λ after. best-stays (messageIn q) w e
+
+  send-leaves : (q t r : ℕ) (m : List ℕ) → s .running ≡ some r → Leaves (sendBy s q t m r)
+  unfolding sendBy callerWaits
+  send-leaves q t r m run = by-test Leaves (noRoom s q) (λ f. begin-stays (s .tables) (I .facts) i r (waitFor (roomIn q) t) (caller-in s I r run))
+      (λ f. deliver-leaves q m (bestWaiter (s .tables) (messageIn q)) refl)
+
+  take-leaves : (q r : ℕ) (m : List ℕ) (ms : List (List ℕ)) (o : Option ℕ) → bestWaiter (s .tables) (roomIn q) ≡ o → Leaves (takeIn s q r m ms o)
+  unfolding takeIn
+  take-leaves q r m ms none e = λ after. refl
+  take-leaves q r m ms (some w) e = λ after. best-stays (roomIn q) w e
+
+  receive-leaves : (q t r : ℕ) (ms : List (List ℕ)) → s .running ≡ some r → Leaves (receiveBy s q t r ms)
+  unfolding receiveBy
+  receive-leaves q t r [] run = wait-leaves r (messageIn q) t 0 run
+  receive-leaves q t r (m ∷ ms) run = take-leaves q r m ms (bestWaiter (s .tables) (roomIn q)) refl
+
   effect-leaves : (x : Step) → firstRow (refusals s x) ≡ none → Leaves (effect s x)
   unfolding effect refusals lockBy passOn pendBy credit flushOf tickOf yieldBy
   effect-leaves (task p) e = λ after. snoc-default granted (s .tables .tasks .outcomes) i
@@ -109,9 +129,13 @@ module _ (s : State) (I : Inv s) (i : ℕ) (h : i < taskCount (s .tables)) (idle
   effect-leaves tick e = λ after. end-stays (s .tables) (I .facts) i (due (s .tables)) (λ j. outcomeDue (waitOf (s .tables) j)) h (due-waits (waitOf (s .tables) i)) idle
   effect-leaves (level j) e = λ after. refl
   effect-leaves (outcome j) e = λ after. refl
+  effect-leaves (queue w d o) e = λ after. refl
+  effect-leaves (send q t m) e = called-by Leaves s (s .running) _ (passed _ _ (passed _ _ e .1) .0) (λ r run. send-leaves q t r m run)
+  effect-leaves (receive q t) e = called-by Leaves s (s .running) _ (passed _ _ (passed _ _ e .1) .0) (λ r run. receive-leaves q t r (messagesOf (s .tables) q) run)
+  effect-leaves (word j n) e = λ after. refl
 
 -- "Nothing but the beginning and the end of a wait changes an outcome.": a task that waits neither before nor after a step has the outcome it had
 pub outcome-stays : (s : State) → Inv s → (x : Step) → (i : ℕ) → i < taskCount (s .tables) → waitOf (s .tables) i ≡ none
     → waitOf ((step s x) .state .tables) i ≡ none → outcomeOf ((step s x) .state .tables) i ≡ outcomeOf (s .tables) i
 outcome-stays s I x i h idle = step-by (λ a. Stays s I i h idle (a .state .tables)) s x (λ r e after. refl)
-    (λ e. rw (finish-tables s (effect s x)) (effect-leaves s I i h idle x e)) (λ e. absurd (clash (inv-sound s I) e))
+    (λ e. rw (finish-tables s (effect s x)) (effect-leaves s I i h idle x e)) (λ e. absurd (clash (inv-sound s I) e)) (λ e after. refl)

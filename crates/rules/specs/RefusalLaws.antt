@@ -10,21 +10,21 @@ use native.Mathlib.Decide.{ℕ-discrete}
 use lib.Dec.{ltb, leb, eqb}
 use lib.ListN.{length, take, drop, length-append, length-drop}
 use lib.Seq.{take-at, drop-at}
-use borrow.Author.Tests.{eqb-true, not-false, lt-ltb, le-ltb, le-leb, lt-leb}
+use borrow.Author.Tests.{eqb-true, eq-eqb, not-false, lt-ltb, le-ltb, le-leb, lt-leb}
 use Rattle.lists.specs.Test.{_and_, holds}
 use Rattle.lists.specs.Count.{eqn, occ}
 use Rattle.lists.specs.Order.{insertTail}
 use Rattle.lists.specs.TestLaws.{which, clash, by-test, and-l, and-false, none-some, some-same, true-some, holds-true}
 use Rattle.lists.specs.CountLaws.{eqn-at, eqn-other}
-use Rattle.rules.specs.Tables.{mutexOf, semOf, taskCount, ownerOf}
+use Rattle.rules.specs.Tables.{mutexOf, semOf, roomIn, messageIn, taskCount, ownerOf, messagesOf}
 use Rattle.rules.specs.Levels.{bestWaiter}
 use Rattle.rules.specs.State.{State, placed, levelOf}
-use Rattle.rules.specs.Step.{Step, task, mutex, sem, start, lock, unlock, pend, post, flush, sleep, yield, hold, free, tick, level, outcome}
-use Rattle.rules.specs.Effect.{Effect, done, callerWaits, lockBy, passOn, pendBy, credit, flushOf, tickOf, yieldBy, called, effect}
+use Rattle.rules.specs.Step.{Step, task, mutex, sem, start, lock, unlock, pend, post, flush, sleep, yield, hold, free, tick, level, outcome, queue, send, receive, word}
+use Rattle.rules.specs.Effect.{Effect, done, callerWaits, lockBy, passOn, pendBy, credit, flushOf, deliver, sendBy, takeIn, receiveBy, tickOf, yieldBy, called, effect}
 use Rattle.rules.specs.Settle.{settle, meet, dispatch, finish}
-use Rattle.rules.specs.Refusal.{Row, held, ofCaller, taken, noCredit, refusals, firstRow, tableOrder, inOrder}
+use Rattle.rules.specs.Refusal.{Row, held, ofCaller, taken, noCredit, noRoom, noMessage, refusals, firstRow, tableOrder, inOrder}
 use Rattle.rules.specs.Sound.{soundb}
-use Rattle.rules.specs.Answer.{Answer, answered, decide, stepSound, standing, stopped, step}
+use Rattle.rules.specs.Answer.{Answer, answered, decide, stepSound, standing, stopped, malformed, isFormed, step}
 use Rattle.rules.specs.Log.{logLine, withRoom, memoryAfter, Call, inRoom, call}
 use Rattle.rules.specs.Invariant.{Inv}
 use Rattle.rules.specs.SettleLaws.{settled-one}
@@ -50,6 +50,10 @@ refusals-in-order s free = refl
 refusals-in-order s tick = refl
 refusals-in-order s (level i) = refl
 refusals-in-order s (outcome i) = refl
+refusals-in-order s (queue w d o) = refl
+refusals-in-order s (send q t m) = refl
+refusals-in-order s (receive q t) = refl
+refusals-in-order s (word i n) = refl
 
 part-of : (n : ℕ) (xs l : List ℕ) → inOrder xs l ≡ true → 1 ≤ occ n xs → 1 ≤ occ n l
 unfolding inOrder occ
@@ -82,14 +86,14 @@ refused-above (suc zero) h = absurd (omega arith)
 refused-above (suc (suc n)) h = omega arith
 
 -- what holds of a step that needs a caller, with none running and with any
-caller-by : (P : Effect → Type 0) (s : State) (o : Option ℕ) (f : ℕ → Effect) → P (done s [] 0) → ((r : ℕ) → P (f r)) → P (called s o f)
+pub caller-by : (P : Effect → Type 0) (s : State) (o : Option ℕ) (f : ℕ → Effect) → P (done s [] 0) → ((r : ℕ) → P (f r)) → P (called s o f)
 unfolding called
 caller-by P s none f g h = g
 caller-by P s (some r) f g h = h r
 
 -- an accepted step is answered 0 or 1
 pub accepted-number : (s : State) (x : Step) → (effect s x) .number ≤ 1
-unfolding effect callerWaits lockBy passOn pendBy credit flushOf tickOf yieldBy
+unfolding effect callerWaits lockBy passOn pendBy credit flushOf tickOf yieldBy deliver sendBy takeIn receiveBy
 accepted-number s (task p) = omega arith
 accepted-number s (mutex k) = omega arith
 accepted-number s (sem count max) = omega arith
@@ -118,13 +122,30 @@ accepted-number s free = omega arith
 accepted-number s tick = omega arith
 accepted-number s (level i) = omega arith
 accepted-number s (outcome i) = omega arith
+accepted-number s (queue w d o) = omega arith
+accepted-number s (send q t m) = caller-by (λ e. e .number ≤ 1) s (s .running) _ (omega arith)
+    (λ r. by-test (λ (e : Effect). e .number ≤ 1) (noRoom s q) (λ f. omega arith) (λ f. go (bestWaiter (s .tables) (messageIn q))))
+  where
+    go : (o : Option ℕ) → (deliver s q m o) .number ≤ 1
+    go none = omega arith
+    go (some w) = omega arith
+accepted-number s (receive q t) = caller-by (λ e. e .number ≤ 1) s (s .running) _ (omega arith) (λ r. from r (messagesOf (s .tables) q))
+  where
+    go : (r : ℕ) (m : List ℕ) (ms : List (List ℕ)) (o : Option ℕ) → (takeIn s q r m ms o) .number ≤ 1
+    go r m ms none = omega arith
+    go r m ms (some w) = omega arith
+
+    from : (r : ℕ) (ms : List (List ℕ)) → (receiveBy s q t r ms) .number ≤ 1
+    from r [] = omega arith
+    from r (m ∷ ms) = go r m ms (bestWaiter (s .tables) (roomIn q))
+accepted-number s (word i n) = omega arith
 
 -- what holds of every answer to a step, and to a step with a log line
 pub step-by : (P : Answer → Type 0) (s : State) (x : Step) → ((r : Row) → firstRow (refusals s x) ≡ some r → P (answered s (r .number) (r .value)))
     → (firstRow (refusals s x) ≡ none → P (answered (finish s (effect s x)) ((effect s x) .number) ((effect s x) .value)))
-    → (soundb s ≡ false → P (stopped s 15)) → P (step s x)
-unfolding step stepSound decide
-step-by P s x f g h = by-test P (soundb s) (λ e. go (firstRow (refusals s x)) refl) h
+    → (soundb s ≡ false → P (stopped s 15)) → (isFormed x ≡ false → P (stopped s 14)) → P (step s x)
+unfolding step stepSound decide malformed
+step-by P s x f g h k = by-test P (isFormed x) (λ e. by-test P (soundb s) (λ e. go (firstRow (refusals s x)) refl) h) k
   where
     go : (o : Option Row) → firstRow (refusals s x) ≡ o → P (decide s x o)
     go none e = g e
@@ -140,7 +161,7 @@ call-by P s c f g = go (c .room)
 
 -- "any other is refused and hands on the state as it got it"
 pub refused-unchanged : (s : State) (x : Step) → 1 < (step s x) .number → (step s x) .state ≡ s
-refused-unchanged s x = step-by (λ a. 1 < a .number → a .state ≡ s) s x (λ r e h. refl) (λ e h. absurd (omega (arith, accepted-number s x))) (λ e h. refl)
+refused-unchanged s x = step-by (λ a. 1 < a .number → a .state ≡ s) s x (λ r e h. refl) (λ e h. absurd (omega (arith, accepted-number s x))) (λ e h. refl) (λ e h. refl)
 
 pub call-unchanged : (s : State) (c : Call) → 1 < (call s c) .number → (call s c) .state ≡ s
 call-unchanged s c = call-by (λ a. 1 < a .number → a .state ≡ s) s c (refused-unchanged s (c .made)) (λ h. refl)
@@ -149,7 +170,7 @@ call-unchanged s c = call-by (λ a. 1 < a .number → a .state ≡ s) s c (refus
 pub unlock-own : (s : State) (m : ℕ) → (step s (unlock m)) .number ≤ 1 → (r : ℕ) × (s .running ≡ some r) × (ownerOf (s .tables) m ≡ some r)
 unfolding refusals ofCaller
 unlock-own s m = step-by (λ a. a .number ≤ 1 → Own) s (unlock m) (λ q e h. absurd (omega (arith, refused-above (q .number) (refused-number s (unlock m) q e))))
-    (λ e h. go (s .running) refl (not-false _ (passed _ _ (passed _ _ (passed _ _ (passed _ _ e .1) .1) .1) .0))) (λ e h. absurd (omega arith))
+    (λ e h. go (s .running) refl (not-false _ (passed _ _ (passed _ _ (passed _ _ (passed _ _ e .1) .1) .1) .0))) (λ e h. absurd (omega arith)) (λ e h. absurd (omega arith))
   where
     Own : Type 0
     Own = (r : ℕ) × (s .running ≡ some r) × (ownerOf (s .tables) m ≡ some r)
@@ -181,7 +202,7 @@ finish-held s e r run = by-test (λ (z : State). 1 ≤ z .hold → z .running �
     go o q = rw q (meet-held settled r (settled .ready))
 
 effect-held : (s : State) (x : Step) → held s ≡ true → firstRow (refusals s x) ≡ none → (effect s x) .state .running ≡ s .running
-unfolding effect refusals callerWaits lockBy passOn pendBy credit flushOf tickOf
+unfolding effect refusals callerWaits lockBy passOn pendBy credit flushOf tickOf deliver sendBy takeIn receiveBy
 effect-held s (task p) h e = refl
 effect-held s (mutex k) h e = refl
 effect-held s (sem count max) h e = refl
@@ -217,9 +238,32 @@ effect-held s free h e = refl
 effect-held s tick h e = refl
 effect-held s (level i) h e = refl
 effect-held s (outcome i) h e = refl
+effect-held s (queue w d o) h e = refl
+effect-held s (send q t m) h e = caller-by (λ z. z .state .running ≡ s .running) s (s .running) _ refl (λ r. by-test (λ (z : Effect). z .state .running ≡ s .running) (noRoom s q)
+    (λ f. absurd (clash h (and-false _ _ f row))) (λ f. go (bestWaiter (s .tables) (messageIn q))))
+  where
+    row : noRoom s q and held s ≡ false
+    row = passed _ _ (passed _ _ (passed _ _ (passed _ _ (passed _ _ (passed _ _ (passed _ _ e .1) .1) .1) .1) .1) .1) .0
+
+    go : (o : Option ℕ) → (deliver s q m o) .state .running ≡ s .running
+    go none = refl
+    go (some w) = refl
+effect-held s (receive q t) h e = caller-by (λ z. z .state .running ≡ s .running) s (s .running) _ refl (λ r. from r (messagesOf (s .tables) q) refl)
+  where
+    row : noMessage s q and held s ≡ false
+    row = passed _ _ (passed _ _ (passed _ _ (passed _ _ (passed _ _ (passed _ _ (passed _ _ e .1) .1) .1) .1) .1) .1) .0
+
+    go : (r : ℕ) (m : List ℕ) (ms : List (List ℕ)) (o : Option ℕ) → (takeIn s q r m ms o) .state .running ≡ s .running
+    go r m ms none = refl
+    go r m ms (some w) = refl
+
+    from : (r : ℕ) (ms : List (List ℕ)) → messagesOf (s .tables) q ≡ ms → (receiveBy s q t r ms) .state .running ≡ s .running
+    from r [] f = absurd (clash h (and-false _ _ (eq-eqb _ _ (ap length f)) row))
+    from r (m ∷ ms) f = go r m ms (bestWaiter (s .tables) (roomIn q))
+effect-held s (word i n) h e = refl
 
 pub held-stays : (s : State) → Inv s → (c : Call) → 1 ≤ s .hold → 1 ≤ (call s c) .state .hold → (call s c) .run ≡ s .running
-held-stays s I c h = call-by Stays s c (step-by Stays s (c .made) (λ r e k. refl) (λ e k. accept e k) (λ e. absurd (clash (inv-sound s I) e))) (λ k. sound-stands s I)
+held-stays s I c h = call-by Stays s c (step-by Stays s (c .made) (λ r e k. refl) (λ e k. accept e k) (λ e. absurd (clash (inv-sound s I) e)) (λ e k. sound-stands s I)) (λ k. sound-stands s I)
   where
     Stays : Answer → Type 0
     Stays a = 1 ≤ a .state .hold → a .run ≡ s .running
@@ -240,8 +284,8 @@ meet-again s q (some r) k (x ∷ l) = refl
 -- "yield: the caller goes to the tail of its level, then the first ready task runs, perhaps the same one."
 pub yield-to-tail : (s : State) → Inv s → (r : ℕ) → s .started ≡ true → s .running ≡ some r → s .hold ≡ 0
     → (step s yield) .state ≡ meet s none (insertTail (levelOf s) r (s .ready))
-unfolding refusals firstRow effect called yieldBy finish dispatch
-yield-to-tail s I r began run unheld = step-by (λ a. a .state ≡ next) s yield (λ q e. none-some passes e) (λ e. go (s .running) run) (λ e. absurd (clash (inv-sound s I) e))
+unfolding refusals firstRow effect called yieldBy finish dispatch isFormed
+yield-to-tail s I r began run unheld = step-by (λ a. a .state ≡ next) s yield (λ q e. none-some passes e) (λ e. go (s .running) run) (λ e. absurd (clash (inv-sound s I) e)) (λ e. absurd (clash refl e))
   where
     next : State
     next = meet s none (insertTail (levelOf s) r (s .ready))
@@ -254,9 +298,14 @@ yield-to-tail s I r began run unheld = step-by (λ a. a .state ≡ next) s yield
         (λ e. meet-again s none none _ _ ∙ ap (meet s none) (settled-one (taskCount (s .tables)) r (levelOf s) (levelOf s) (s .ready) (caller-in s I r run) (λ i m. refl) (I .ascending))) (λ e. absurd (clash began e)))
 
 -- 15: "the state handed in isn't sound", and no task is named
-pub unsound-15 : (s : State) (x : Step) → soundb s ≡ false → step s x ≡ record { state = s; number = 15; value = 0; run = none }
+pub unsound-15 : (s : State) (x : Step) → isFormed x ≡ true → soundb s ≡ false → step s x ≡ record { state = s; number = 15; value = 0; run = none }
 unfolding step standing
-unsound-15 s x e = rw e refl
+unsound-15 s x f e = rw (f, e) refl
+
+-- 14 comes before 15: what is no step, in whatever state
+pub malformed-14 : (s : State) (x : Step) → isFormed x ≡ false → step s x ≡ record { state = s; number = 14; value = 0; run = standing s }
+unfolding step malformed
+malformed-14 s x f = rw f refl
 
 -- "with the log's 8 all stay"; else the line is at the front and "bytes after it stay"
 module _ (a : Answer) (memory : List ℕ) where

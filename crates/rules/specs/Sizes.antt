@@ -15,6 +15,18 @@ maxMutexes = 8
 abbrev pub maxSemaphores : ℕ
 maxSemaphores = 8
 
+-- document 02, K1: "ids 0 to 7"
+abbrev pub maxQueues : ℕ
+maxQueues = 8
+
+-- "depth 1 to 64"
+abbrev pub maxDepth : ℕ
+maxDepth = 64
+
+-- "A task holds eight words": also the widest message
+abbrev pub heldWords : ℕ
+heldWords = 8
+
 -- "Priority 0 is the most urgent, 31 the least": the number of levels
 abbrev pub levels : ℕ
 levels = 32
@@ -64,3 +76,9 @@ onSemaphore = 2
 
 abbrev pub onTime : ℕ
 onTime = 3
+
+abbrev pub onSend : ℕ
+onSend = 4
+
+abbrev pub onReceive : ℕ
+onReceive = 5

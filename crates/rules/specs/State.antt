@@ -16,13 +16,14 @@ pub record State : Type 0 where
   pub running : Option ℕ
   pub ready : List ℕ
 
--- "A fresh state is in set-up, with nothing made, clock and hold 0."
-unfoldable pub fresh : State
-fresh = record {
+-- "A fresh state is in set-up, with nothing made, clock and hold 0.": with a lent block of so many words
+unfoldable pub fresh : ℕ → State
+fresh space = record {
   tables = record {
-    tasks = record { priorities = []; outcomes = []; waits = []; waiting = [] };
+    tasks = record { priorities = []; outcomes = []; waits = []; words = []; waiting = [] };
     mutexes = record { kinds = []; owners = [] };
     semaphores = record { counts = []; maxima = [] };
+    queues = record { widths = []; depths = []; owners = []; messages = []; space = space };
   };
   started = false;
   clock = 0;

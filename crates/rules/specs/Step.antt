@@ -1,4 +1,6 @@
--- The steps, task to outcome, with their numbers.
+-- The steps, task to outcome, with their numbers, and those of document 02.
+use mathlib.Core.List.{List}
+use mathlib.Core.Option.{Option}
 use Prim.Native.Nat.{ℕ}
 
 pub data Step : Type 0 where
@@ -23,3 +25,11 @@ pub data Step : Type 0 where
   -- document 01's term "outcome": what the last wait of a task came to, 1 while it waits and 0 before its first ("outcomes 0, 1, 20 or 21, and
   -- 1 exactly for waiting tasks"; Sizes names them).
   level outcome : ℕ → Step
+  -- document 02, K1: queue w d, queue w d owner
+  queue : ℕ → ℕ → Option ℕ → Step
+  -- send q t and the message's words
+  send : ℕ → ℕ → List ℕ → Step
+  -- receive q t
+  receive : ℕ → ℕ → Step
+  -- word i n: "allowed as `level` is"
+  word : ℕ → ℕ → Step

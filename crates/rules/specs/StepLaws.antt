@@ -1,35 +1,39 @@
 -- Every accepted step keeps the invariant; a refused one changes nothing.
 use mathlib.Core.Path.{_≡_, refl, ap, sym, _∙_, subst}
-use mathlib.Core.List.{List, [], _∷_}
+use mathlib.Core.List.{List, [], _∷_, _++_}
 use mathlib.Core.Bool.{Bool, true, false, not}
 use mathlib.Core.Logic.{inl, inr}
 use mathlib.Core.Option.{Option, none, some}
-use Prim.Native.Nat.{ℕ, _+_, _-_, _%_, _≤_, _<_}
+use Prim.Native.Nat.{ℕ, _+_, _-_, _*_, _%_, _≤_, _<_}
 use native.Mathlib.Omega.{arith}
 use lib.Dec.{ltb, eqb}
-use borrow.Author.Tests.{ltb-true, ltb-false, leb-true, leb-false, eqb-true, eqb-false, not-false, eq-eqb, ne-eqb}
-use Rattle.lists.specs.Test.{_and_, someb}
-use Rattle.lists.specs.Count.{occ, below, opt}
+use lib.ListN.{length, getD}
+use borrow.Author.Tests.{ltb-true, ltb-false, leb-true, leb-false, eqb-true, eqb-false, not-true, not-false, eq-eqb, ne-eqb}
+use Rattle.lists.specs.Test.{_and_, someb, holds}
+use Rattle.lists.specs.Count.{occ, below, opt, member}
 use Rattle.lists.specs.Order.{keep, Ties}
-use Rattle.lists.specs.TestLaws.{which, clash, by-test, and-l, and-r, and-false, or-true, or-none, none-some, some-true}
+use Rattle.lists.specs.TestLaws.{which, clash, by-test, and-l, and-r, and-false, or-true, or-none, none-some, some-same, some-true, true-some, holds-true}
 use Rattle.lists.specs.CountLaws.{occ-append, occ-opt, below-out, in-below, below-le}
 use Rattle.chains.specs.Chain.{end, link}
-use Rattle.rules.specs.Sizes.{maxTasks, maxMutexes, maxSemaphores, levels, kinds, wordSize, maxHold, maxTicks, forever, granted, flushed}
-use Rattle.rules.specs.Tables.{Awaited, mutexOf, semOf, time, awaitedKind, isSleep, Wait, Tables, taskCount, mutexCount, semCount, outcomeOf, waitOf, ownerOf, countOf, maximumOf, ticksOf, waitFor}
+use Rattle.rules.specs.Sizes.{maxTasks, maxMutexes, maxSemaphores, maxQueues, levels, kinds, wordSize, maxHold, maxTicks, forever, granted, flushed}
+use Rattle.rules.specs.Tables.{Awaited, mutexOf, semOf, roomIn, messageIn, time, awaitedKind, isSleep, Wait, Tables, taskCount, mutexCount, semCount, queueCount, outcomeOf, waitOf, wordsOf, ownerOf, countOf, maximumOf, widthOf, depthOf, queueOwnerOf, messagesOf, takenBy, spaceTaken, ticksOf, waitFor}
 use Rattle.rules.specs.Levels.{ownerAwaited, ofWait, next, linksOf, closesRing, awaits, bestWaiter}
 use Rattle.rules.specs.State.{State, fresh, withTables, withStarted, withClock, withHold, levelOf}
-use Rattle.rules.specs.Step.{Step, task, mutex, sem, start, lock, unlock, pend, post, flush, sleep, yield, hold, free, tick, level, outcome}
-use Rattle.rules.specs.Effect.{Effect, done, give, setCount, endWaits, ended, callerWaits, lockBy, passOn, pendBy, credit, flushOf, isDue, due, outcomeDue, ageAll, tickOf, yieldBy, called, effect}
+use Rattle.rules.specs.Step.{Step, task, mutex, sem, start, lock, unlock, pend, post, flush, sleep, yield, hold, free, tick, level, outcome, queue, send, receive, word}
+use Rattle.rules.specs.Effect.{Effect, done, give, setCount, setMessages, hands, endWaits, ended, callerWaits, lockBy, passOn, pendBy, credit, flushOf, isFull, deliver, sendBy, sentBy, takeIn, receiveBy, isDue, due, outcomeDue, ageAll, tickOf, yieldBy, called, effect}
 use Rattle.rules.specs.Settle.{settle, finish}
-use Rattle.rules.specs.Refusal.{Row, isWaitingTime, isSleepTime, held, ofCaller, taken, noCredit, noSuchMutex, noSuchSem, refusals, firstRow}
-use Rattle.rules.specs.Sound.{waitCount}
+use Rattle.rules.specs.Refusal.{Row, isWaitingTime, isSleepTime, held, ofCaller, taken, noCredit, noRoom, mayReceive, noSuchMutex, noSuchSem, noSuchQueue, refusals, firstRow}
+use Rattle.rules.specs.Sound.{waitCount, isWidth, isDepth}
 use Rattle.rules.specs.Answer.{decide, stepSound}
-use Rattle.rules.specs.Invariant.{Unavailable, Left, Facts, HoldRuns, SetUp, Started, Inv}
+use Rattle.rules.specs.Invariant.{Unavailable, Suits, Left, Facts, HoldRuns, SetUp, Started, Inv}
 use Rattle.rules.specs.LevelLaws.{ring-none}
 use Rattle.rules.specs.FactsLaws.{facts-give, facts-free, facts-begin, wait-ended, facts-end, facts-count, facts-age}
+use Rattle.rules.specs.QueueLaws.{chain-held}
+use Rattle.rules.specs.MessageLaws.{held-facts, held-suits, sent-facts, handed-facts, took-facts, swapped-facts}
+use Rattle.rules.specs.SoundLaws.{depth-true, exists-true}
 use Rattle.rules.specs.SettleLaws.{settled-same, finish-inv}
 use Rattle.rules.specs.WaiterLaws.{wait-none, awaits-waits, awaited-blocked, not-due, outcome-due, wait-in, best-waits, nobody-best, places-end}
-use Rattle.rules.specs.CreationLaws.{mutex-inv, sem-inv, task-inv}
+use Rattle.rules.specs.CreationLaws.{mutex-inv, sem-inv, queue-inv, task-inv}
 
 -- where no row applies, the first does not, and none of those after it
 pub passed : (r : Row) (rs : List Row) → firstRow (r ∷ rs) ≡ none → (r .when ≡ false) × (firstRow rs ≡ none)
@@ -91,6 +95,8 @@ module _ (s : State) (I : Inv s) where
         nobody-waits = U .nobody-waits;
         nothing-owned = U .nothing-owned;
         outcomes-0 = U .outcomes-0;
+        queues-empty = U .queues-empty;
+        words-0 = U .words-0;
         by-id = subst (Ties (levelOf s)) (sym (settled-same (taskCount (s .tables)) (levelOf s) (levelOf s) (s .ready) (λ i m. refl) (I .ascending))) (U .by-id);
       }
 
@@ -110,14 +116,19 @@ module _ (s : State) (I : Inv s) where
     end-inv t p c F low n w = finish-inv s (done (withClock (withTables s t) c) (ended (s .tables) p) 0) F low (I .hold-in)
         (places-end s t p n w (I .places)) (S .hold-runs) (no-set-up on)
 
-    -- the caller waits
-    wait-inv : (r : ℕ) (a : Awaited) (t links : ℕ) → s .running ≡ some r → held s ≡ false → Unavailable (s .tables) a → Left a (ticksOf t)
-        → closesRing (s .tables) r a ≡ false → Keeps (callerWaits s r a t links)
+    -- the caller waits: with tables T, in which at most its words are others than before
+    wait-with : (T : Tables) → Facts T → taskCount T ≡ taskCount (s .tables) → T .tasks .waits ≡ s .tables .tasks .waits → T .tasks .waiting ≡ s .tables .tasks .waiting
+        → (r : ℕ) (a : Awaited) (t links : ℕ) → s .running ≡ some r → held s ≡ false → Unavailable T a → Suits T r a → Left a (ticksOf t)
+        → closesRing T r a ≡ false → Keeps (callerWaits (withTables s T) r a t links)
     unfolding callerWaits occ
-    wait-inv r a t links run unheld un left clear = finish-inv s (callerWaits s r a t links)
-        (facts-begin (s .tables) r (waitFor a t) (caller-in r run) (caller-idle r run) un left clear (I .facts)) (I .clock-in) (I .hold-in)
-        (λ i. omega (arith, I .places i, occ-append i (s .tables .tasks .waiting) (r ∷ []), ap (λ x. occ i (opt x)) run))
+    wait-with T F n ws w r a t links run unheld un suits left clear = finish-inv s (callerWaits (withTables s T) r a t links)
+        (facts-begin T r (waitFor a t) (omega (arith, caller-in r run)) (ap (λ l. getD l r none) ws ∙ caller-idle r run) un suits left clear F) (I .clock-in) (I .hold-in)
+        (λ i. omega (arith, I .places i, occ-append i (T .tasks .waiting) (r ∷ []), ap (occ i) w, ap (below i) n, ap (λ x. occ i (opt x)) run))
         (λ h. absurd (omega (arith, ltb-false 0 (s .hold) unheld))) (no-set-up on)
+
+    wait-inv : (r : ℕ) (a : Awaited) (t links : ℕ) → s .running ≡ some r → held s ≡ false → Unavailable (s .tables) a → Suits (s .tables) r a → Left a (ticksOf t)
+        → closesRing (s .tables) r a ≡ false → Keeps (callerWaits s r a t links)
+    wait-inv = wait-with (s .tables) (I .facts) refl refl refl
 
     lock-inv : (r m t : ℕ) (o : Option ℕ) → s .running ≡ some r → ownerOf (s .tables) m ≡ o → noSuchMutex s m ≡ false → isWaitingTime t ≡ true
         → someb o and eqb t 0 ≡ false → someb o and held s ≡ false → someb o and closesRing (s .tables) r (mutexOf m) ≡ false → Keeps (lockBy s m t r o)
@@ -125,7 +136,7 @@ module _ (s : State) (I : Inv s) where
     lock-inv r m t none run e there valid now unheld ring = tables-inv (give (s .tables) m (some r))
         (facts-give (s .tables) m r (leb-false (mutexCount (s .tables)) m there) (caller-in r run) (caller-idle r run) (I .facts)) refl refl
     lock-inv r m t (some o) run e there valid now unheld ring =
-        wait-inv r (mutexOf m) t (linksOf (s .tables) r (mutexOf m)) run unheld (o, e) (left-wait (mutexOf m) t refl valid now) ring
+        wait-inv r (mutexOf m) t (linksOf (s .tables) r (mutexOf m)) run unheld (o, e) tt (left-wait (mutexOf m) t refl valid now) ring
 
     unlock-inv : (m : ℕ) (o : Option ℕ) → bestWaiter (s .tables) (mutexOf m) ≡ o → noSuchMutex s m ≡ false → Keeps (passOn s m o)
     unfolding passOn
@@ -148,7 +159,7 @@ module _ (s : State) (I : Inv s) where
         → noCredit s k and held s ≡ false → Keeps (pendBy s k t r)
     unfolding pendBy ownerAwaited awaitedKind
     pend-inv r k t run there valid now unheld = by-test Keeps (noCredit s k)
-        (λ e. wait-inv r (semOf k) t 0 run (and-false _ _ e unheld) (leb-false (semCount (s .tables)) k there, eqb-true (countOf (s .tables) k) 0 e)
+        (λ e. wait-inv r (semOf k) t 0 run (and-false _ _ e unheld) (leb-false (semCount (s .tables)) k there, eqb-true (countOf (s .tables) k) 0 e) tt
         (left-wait (semOf k) t refl valid (and-false _ _ e now)) (ring-none (s .tables) (I .facts) r (semOf k) refl))
         (λ e. tables-inv (setCount (s .tables) k (countOf (s .tables) k - 1)) (facts-count (s .tables) k (countOf (s .tables) k - 1)
         (λ i. nobody e i) (omega (arith, I .facts .counts k (leb-false (semCount (s .tables)) k there) .0)) (I .facts)) refl refl)
@@ -187,6 +198,43 @@ module _ (s : State) (I : Inv s) where
             no-wait : isDue none ≡ false
             no-wait = not-due
 
+    -- a message goes to the best waiting receiver, or to the tail of a queue that has room
+    deliver-inv : (q : ℕ) (m : List ℕ) (o : Option ℕ) → bestWaiter (s .tables) (messageIn q) ≡ o → q < queueCount (s .tables) → length m ≡ widthOf (s .tables) q
+        → isFull (s .tables) q ≡ false → Keeps (deliver s q m o)
+    unfolding deliver
+    deliver-inv q m none e low wide gap = tables-inv (setMessages (s .tables) q (messagesOf (s .tables) q ++ (m ∷ []))) (sent-facts (s .tables) (I .facts) q low m wide gap e) refl refl
+    deliver-inv q m (some w) e low wide gap = end-inv (hands (endWaits (s .tables) (eqb w) (λ i. granted)) w m) (eqb w) (s .clock)
+        (handed-facts (s .tables) (I .facts) q low m wide w e) (I .clock-in) refl refl
+
+    send-inv : (r q t : ℕ) (m : List ℕ) → s .running ≡ some r → noSuchQueue s q ≡ false → isWaitingTime t ≡ true → length m ≡ widthOf (s .tables) q
+        → noRoom s q and eqb t 0 ≡ false → noRoom s q and held s ≡ false → noRoom s q and closesRing (s .tables) r (roomIn q) ≡ false → Keeps (sendBy s q t m r)
+    unfolding sendBy awaitedKind
+    send-inv r q t m run there valid wide now unheld ring = by-test Keeps (noRoom s q)
+        (λ e. wait-with (hands (s .tables) r m) (held-facts (s .tables) (I .facts) q low m wide r (caller-in r run) (caller-idle r run)) refl refl refl
+        r (roomIn q) t (linksOf (s .tables) r (roomIn q)) run (and-false _ _ e unheld)
+        (low, eqb-true (length (messagesOf (s .tables) q)) (depthOf (s .tables) q) e) (held-suits (s .tables) (I .facts) q low m wide r (caller-in r run))
+        (left-wait (roomIn q) t refl valid (and-false _ _ e now)) (ap (λ l. member r l) (chain-held (s .tables) r m (roomIn q)) ∙ and-false _ _ e ring))
+        (λ e. deliver-inv q m (bestWaiter (s .tables) (messageIn q)) refl low wide e)
+      where
+        low : q < queueCount (s .tables)
+        low = leb-false (queueCount (s .tables)) q there
+
+    -- the oldest message is r's; the best waiting sender's goes to the tail
+    take-inv : (r q : ℕ) (m : List ℕ) (ms : List (List ℕ)) (o : Option ℕ) → s .running ≡ some r → messagesOf (s .tables) q ≡ m ∷ ms → bestWaiter (s .tables) (roomIn q) ≡ o
+        → q < queueCount (s .tables) → Keeps (takeIn s q r m ms o)
+    unfolding takeIn
+    take-inv r q m ms none run e best low = tables-inv (hands (setMessages (s .tables) q ms) r m)
+        (took-facts (s .tables) (I .facts) q low m ms e r (caller-in r run) (caller-idle r run) best) refl refl
+    take-inv r q m ms (some w) run e best low = end-inv (hands (setMessages (endWaits (s .tables) (eqb w) (λ i. granted)) q (ms ++ (sentBy (s .tables) q w ∷ []))) r m) (eqb w) (s .clock)
+        (swapped-facts (s .tables) (I .facts) q low m ms e r (caller-in r run) (caller-idle r run) w best) (I .clock-in) refl refl
+
+    receive-inv : (r q t : ℕ) (ms : List (List ℕ)) → s .running ≡ some r → messagesOf (s .tables) q ≡ ms → noSuchQueue s q ≡ false → isWaitingTime t ≡ true
+        → ((o : ℕ) → queueOwnerOf (s .tables) q ≡ some o → o ≡ r) → eqb (length ms) 0 and eqb t 0 ≡ false → eqb (length ms) 0 and held s ≡ false → Keeps (receiveBy s q t r ms)
+    unfolding receiveBy ownerAwaited awaitedKind _and_
+    receive-inv r q t [] run e there valid own now unheld = wait-inv r (messageIn q) t 0 run unheld (leb-false (queueCount (s .tables)) q there, ap length e) own
+        (left-wait (messageIn q) t refl valid now) (ring-none (s .tables) (I .facts) r (messageIn q) refl)
+    receive-inv r q t (m ∷ ms) run e there valid own now unheld = take-inv r q m ms (bestWaiter (s .tables) (roomIn q)) run e refl (leb-false (queueCount (s .tables)) q there)
+
     yield-inv : (r : ℕ) → s .running ≡ some r → held s ≡ false → Keeps (yieldBy s r)
     unfolding yieldBy occ
     yield-inv r run unheld = finish-inv s (yieldBy s r) (I .facts) (I .clock-in) (I .hold-in)
@@ -204,6 +252,13 @@ module _ (s : State) (I : Inv s) where
 pub of-caller : (o : Option ℕ) (p : ℕ → Bool) (r : ℕ) → o ≡ some r → ofCaller o p ≡ p r
 unfolding ofCaller
 of-caller o p r e = rw e refl
+
+-- "the only task that may receive"
+pub may-receive : (s : State) (q r : ℕ) → s .running ≡ some r → mayReceive s q ≡ true → (o : ℕ) → queueOwnerOf (s .tables) q ≡ some o → o ≡ r
+may-receive s q r run e o own = elim (or-true _ _ e) [
+  | inl f ↦ absurd (clash (true-some (queueOwnerOf (s .tables) q) o own) (not-true _ f))
+  | inr f ↦ some-same (sym own ∙ holds-true (queueOwnerOf (s .tables) q) r (sym (of-caller (s .running) (holds (queueOwnerOf (s .tables) q)) r run) ∙ f))
+]
 
 module _ (s : State) (I : Inv s) where
   accept-inv : (x : Step) → firstRow (refusals s x) ≡ none → Inv (finish s (effect s x))
@@ -264,7 +319,7 @@ module _ (s : State) (I : Inv s) where
       let c = passed _ _ (b .1) in
       let d = passed _ _ (c .1) in
       called-by (λ y. Inv (finish s y)) s (s .running) (λ r. callerWaits s r time t 0) (b .0) (λ r run.
-      wait-inv s I (a .0) r time t 0 run (d .0) tt (left-sleep t (not-false (isSleepTime t) (c .0))) (ring-none (s .tables) (I .facts) r time refl))
+      wait-inv s I (a .0) r time t 0 run (d .0) tt tt (left-sleep t (not-false (isSleepTime t) (c .0))) (ring-none (s .tables) (I .facts) r time refl))
   accept-inv yield e =
       let a = passed _ _ e in
       let b = passed _ _ (a .1) in
@@ -282,6 +337,41 @@ module _ (s : State) (I : Inv s) where
   accept-inv tick e = tick-inv s I (passed _ _ e .0)
   accept-inv (level i) e = idle-inv s I (levelOf s i)
   accept-inv (outcome i) e = idle-inv s I (outcomeOf (s .tables) i)
+  accept-inv (queue w d o) e =
+      let a = passed _ _ e in
+      let b = passed _ _ (a .1) in
+      let c = passed _ _ (b .1) in
+      let f = passed _ _ (c .1) in
+      let g = not-false (isWidth w and isDepth d) (c .0) in
+      let h = depth-true d (and-r _ _ g) in
+      let k = or-none _ _ (f .0) in
+      queue-inv s I (a .0) w d o _ (and-l _ _ g) (h .0) (h .1) (exists-true (taskCount (s .tables)) o (not-false _ (b .0)))
+      (leb-false maxQueues (queueCount (s .tables)) (k .0)) (ltb-false (s .tables .queues .space) (spaceTaken (s .tables) + w * d) (k .1))
+  accept-inv (send q t m) e =
+      let a = passed _ _ e in
+      let b = passed _ _ (a .1) in
+      let c = passed _ _ (b .1) in
+      let d = passed _ _ (c .1) in
+      let f = passed _ _ (d .1) in
+      let g = passed _ _ (f .1) in
+      let h = passed _ _ (g .1) in
+      let k = passed _ _ (h .1) in
+      let n = or-none _ _ (d .0) in
+      called-by (λ y. Inv (finish s y)) s (s .running) (sendBy s q t m) (b .0) (λ r run.
+      send-inv s I (a .0) r q t m run (c .0) (not-false (isWaitingTime t) (n .0)) (eqb-true (length m) (widthOf (s .tables) q) (not-false _ (n .1))) (g .0) (h .0)
+      (ap (λ z. noRoom s q and z) (sym (of-caller (s .running) (λ i. closesRing (s .tables) i (roomIn q)) r run)) ∙ k .0))
+  accept-inv (receive q t) e =
+      let a = passed _ _ e in
+      let b = passed _ _ (a .1) in
+      let c = passed _ _ (b .1) in
+      let d = passed _ _ (c .1) in
+      let f = passed _ _ (d .1) in
+      let g = passed _ _ (f .1) in
+      let h = passed _ _ (g .1) in
+      called-by (λ y. Inv (finish s y)) s (s .running) (λ r. receiveBy s q t r (messagesOf (s .tables) q)) (b .0) (λ r run.
+      receive-inv s I (a .0) r q t (messagesOf (s .tables) q) run refl (c .0) (not-false (isWaitingTime t) (d .0))
+      (may-receive s q r run (not-false (mayReceive s q) (f .0))) (g .0) (h .0))
+  accept-inv (word i n) e = idle-inv s I (getD (wordsOf (s .tables) i) n 0)
 
   -- every step keeps a sound state sound
   pub step-inv : (x : Step) → Inv ((stepSound s x) .state)
@@ -293,26 +383,36 @@ module _ (s : State) (I : Inv s) where
       go (some r) e = I
 
 -- the fresh state is sound
-pub fresh-inv : Inv fresh
-unfolding fresh next ofWait occ waitCount
-fresh-inv = record {
+pub fresh-inv : (space : ℕ) → Inv (fresh space)
+unfolding fresh next ofWait occ waitCount takenBy
+fresh-inv space = record {
   facts = record {
     wait-column = refl;
     outcome-column = refl;
     kind-column = refl;
     maximum-column = refl;
+    word-column = refl;
+    width-column = refl;
+    depth-column = refl;
+    message-column = refl;
     few-tasks = omega arith;
     few-mutexes = omega arith;
     few-semaphores = omega arith;
+    few-queues = omega arith;
     priorities = λ i h. absurd (omega arith);
     kinds-in = λ m h. absurd (omega arith);
     waiting = λ i. refl;
     blocked = λ i. tt;
     timed = λ i. tt;
     owners = λ m o e. none-some refl e;
+    queue-owners = λ q o e. none-some refl e;
     ends = λ i. (i ∷ [], link end);
     counts = λ k h. absurd (omega arith);
     outcomes = λ i h. absurd (omega arith);
+    queues = λ q h. absurd (omega arith);
+    placed-in = omega arith;
+    words = λ i h. absurd (omega arith);
+    queued = λ i. tt;
   };
   clock-in = omega arith;
   hold-in = omega arith;
@@ -326,6 +426,8 @@ fresh-inv = record {
     nobody-waits = λ i. refl;
     nothing-owned = λ m. refl;
     outcomes-0 = λ i. refl;
+    queues-empty = λ q. refl;
+    words-0 = λ i n. refl;
     by-id = tt;
   };
 }

@@ -7,18 +7,18 @@ use lib.ListN.{replicate}
 use Rattle.lists.specs.Test.{_and_, _or_, allb, someb, holds}
 use Rattle.lists.specs.Count.{eqn, occ}
 use Rattle.lists.specs.Order.{keep, range, byId, place, insertTail, insertHead, insertAll, stable, ascb, tiesb, firstAt, orElse, firstFrom, before, inside}
-use Rattle.lists.specs.Table.{edit}
+use Rattle.lists.specs.Table.{edit, pad}
 use Rattle.chains.specs.Chain.{walk, endsb}
 use Rattle.chains.specs.Least.{least, leadsTo, leastLeading}
-use Rattle.rules.specs.Tables.{awaitedKind, awaitedObject, ticksOf}
+use Rattle.rules.specs.Tables.{awaitedKind, awaitedObject, ticksOf, takenBy}
 use Rattle.rules.specs.Levels.{ownerAwaited, heirAwaited, ofWait, next, lends, levelIn, chainOf, sameAwaited, waitIsFor, waitersOf, bestWaiter}
 use Rattle.rules.specs.State.{State, fresh}
 use Rattle.rules.specs.Step.{Step, task, mutex, start, lock, unlock, sleep, tick, level}
-use Rattle.rules.specs.Effect.{callerWaits, lockBy, passOn, pendBy, credit, flushOf, isDue, outcomeDue, lessOne, age, tickOf, yieldBy, called, effect}
+use Rattle.rules.specs.Effect.{heldFor, callerWaits, lockBy, passOn, pendBy, credit, flushOf, deliver, sendBy, takeIn, receiveBy, isDue, outcomeDue, lessOne, age, tickOf, yieldBy, called, effect}
 use Rattle.rules.specs.Settle.{settledReady, meet, dispatch, finish}
 use Rattle.rules.specs.Refusal.{ofCaller, linksFor, refusals, firstRow}
-use Rattle.rules.specs.Sound.{columnsb, sizesb, rangesb, clockb, waitCount, waitingb, placesb, ascendingb, unavailableb, leftb, blockedb, timedb, waitersb, timesb, existsb, ownersb, noRingb, countsb, outcomeb, outcomesb, noneIn, runsb, holdb, urgentTop, urgentb, setUpb, tablesb, soundb}
-use Rattle.rules.specs.Answer.{decide, stepSound, standing, step}
+use Rattle.rules.specs.Sound.{columnsb, sizesb, rangesb, isWidth, isDepth, messagesb, queueb, queuesb, wordsb, clockb, waitCount, waitingb, placesb, ascendingb, unavailableb, leftb, blockedb, timedb, waitersb, timesb, isOwn, pastb, suitsb, queuedb, queueWaitsb, existsb, ownersb, noRingb, countsb, outcomeb, outcomesb, noneIn, runsb, holdb, urgentTop, urgentb, setUpb, tablesb, soundb}
+use Rattle.rules.specs.Answer.{decide, stepSound, standing, malformed, isFormed, step}
 
 -- "one line for each script line: answer, value, running task or `-`"
 pub record Fields : Type 0 where
@@ -104,11 +104,12 @@ pub cases : List (List Line)
 cases = session ∷ nestedLocks ∷ []
 
 -- from a fresh state, the rules give each script the log beside it; unfolded is all that a step is made of, its test of soundness included
-pub cases-agree : map (λ c. replay fresh (map (λ l. l .made) c)) cases ≡ map (λ c. map (λ l. l .logged) c) cases
+pub cases-agree : map (λ c. replay (fresh 0) (map (λ l. l .made) c)) cases ≡ map (λ c. map (λ l. l .logged) c) cases
 unfolding cases session nestedLocks replay _and_ _or_ allb someb holds eqn occ keep range byId place insertTail insertHead insertAll stable ascb tiesb
     firstAt orElse firstFrom before inside edit walk endsb least leadsTo leastLeading awaitedKind awaitedObject ownerAwaited heirAwaited ofWait next lends levelIn chainOf
     sameAwaited waitIsFor waitersOf bestWaiter fresh ticksOf callerWaits lockBy passOn pendBy credit flushOf isDue outcomeDue lessOne age
     tickOf yieldBy called effect settledReady meet dispatch finish ofCaller linksFor refusals firstRow columnsb sizesb rangesb clockb waitCount
     waitingb placesb ascendingb unavailableb leftb blockedb timedb waitersb timesb existsb ownersb noRingb countsb outcomeb outcomesb noneIn runsb
-    holdb urgentTop urgentb setUpb tablesb soundb decide stepSound standing step
+    holdb urgentTop urgentb setUpb tablesb soundb decide stepSound standing malformed isFormed step isWidth isDepth messagesb queueb queuesb wordsb isOwn pastb suitsb
+    queuedb queueWaitsb takenBy pad heldFor deliver sendBy takeIn receiveBy
 cases-agree = refl

@@ -17,7 +17,7 @@ use Rattle.chains.specs.Chain.{From, here, on}
 use Rattle.chains.specs.ChainLaws.{from-some}
 use Rattle.chains.specs.LeastLaws.{leading-att}
 use Rattle.rules.specs.Sizes.{levels}
-use Rattle.rules.specs.Tables.{Awaited, mutexOf, semOf, time, awaitedKind, awaitedObject, isSleep, Wait, Tables, taskCount, priorityOf, waitOf}
+use Rattle.rules.specs.Tables.{Awaited, mutexOf, semOf, roomIn, messageIn, time, awaitedKind, awaitedObject, isSleep, Wait, Tables, taskCount, priorityOf, waitOf}
 use Rattle.rules.specs.Levels.{heirAwaited, ofWait, lends, levelIn, sameAwaited, waitIsFor, awaits, waitersOf, bestWaiter}
 use Rattle.rules.specs.State.{State, withTables}
 use Rattle.rules.specs.Effect.{ended, isDue, outcomeDue}
@@ -46,12 +46,28 @@ pub same-awaited : (a b : Awaited) → sameAwaited a b ≡ true → a ≡ b
 unfolding sameAwaited awaitedKind awaitedObject
 same-awaited (mutexOf m) (mutexOf n) e = ap mutexOf (eqb-true m n (and-r _ _ e))
 same-awaited (mutexOf m) (semOf n) e = absurd (clash (and-l _ _ e) refl)
+same-awaited (mutexOf m) (roomIn n) e = absurd (clash (and-l _ _ e) refl)
+same-awaited (mutexOf m) (messageIn n) e = absurd (clash (and-l _ _ e) refl)
 same-awaited (mutexOf m) time e = absurd (clash (and-l _ _ e) refl)
 same-awaited (semOf m) (mutexOf n) e = absurd (clash (and-l _ _ e) refl)
 same-awaited (semOf m) (semOf n) e = ap semOf (eqb-true m n (and-r _ _ e))
+same-awaited (semOf m) (roomIn n) e = absurd (clash (and-l _ _ e) refl)
+same-awaited (semOf m) (messageIn n) e = absurd (clash (and-l _ _ e) refl)
 same-awaited (semOf m) time e = absurd (clash (and-l _ _ e) refl)
+same-awaited (roomIn m) (mutexOf n) e = absurd (clash (and-l _ _ e) refl)
+same-awaited (roomIn m) (semOf n) e = absurd (clash (and-l _ _ e) refl)
+same-awaited (roomIn m) (roomIn n) e = ap roomIn (eqb-true m n (and-r _ _ e))
+same-awaited (roomIn m) (messageIn n) e = absurd (clash (and-l _ _ e) refl)
+same-awaited (roomIn m) time e = absurd (clash (and-l _ _ e) refl)
+same-awaited (messageIn m) (mutexOf n) e = absurd (clash (and-l _ _ e) refl)
+same-awaited (messageIn m) (semOf n) e = absurd (clash (and-l _ _ e) refl)
+same-awaited (messageIn m) (roomIn n) e = absurd (clash (and-l _ _ e) refl)
+same-awaited (messageIn m) (messageIn n) e = ap messageIn (eqb-true m n (and-r _ _ e))
+same-awaited (messageIn m) time e = absurd (clash (and-l _ _ e) refl)
 same-awaited time (mutexOf n) e = absurd (clash (and-l _ _ e) refl)
 same-awaited time (semOf n) e = absurd (clash (and-l _ _ e) refl)
+same-awaited time (roomIn n) e = absurd (clash (and-l _ _ e) refl)
+same-awaited time (messageIn n) e = absurd (clash (and-l _ _ e) refl)
 same-awaited time time e = refl
 
 pub awaited-self : (a : Awaited) → sameAwaited a a ≡ true

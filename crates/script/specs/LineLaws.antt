@@ -13,9 +13,8 @@ use Rattle.arrive.specs.Arrive.{Arrival}
 use Rattle.arrive.specs.Feed.{foundLine, arrivalsOf}
 use Rattle.arrive.specs.declared.Found.{Found}
 use Rattle.arrive.specs.declared.Found.the-variants as found
-use Rattle.record.specs.StepRecord.{stays}
-use Rattle.record.specs.declared.State.{State}
-use Rattle.record.specs.declared.Out.{Out}
+use Rattle.record.specs.StepRecord.{After, stays}
+use Rattle.record.specs.Whole.{Whole}
 use Rattle.record.specs.declared.Answer.{Answer}
 use Rattle.text.specs.Place.{room, putAnswer, putBytes}
 use Rattle.text.specs.declared.place.Put.the-variants.{Next, Full}
@@ -24,7 +23,7 @@ use Rattle.words.specs.Form.{sameBytes}
 use Rattle.log_lines.specs.LogLine.{logBytes, badBytes}
 use Rattle.words.specs.Form.{headerBytes}
 use Rattle.script_lines.specs.LineRun.{awaiting, running, lineAnswered, lineFor, headLog, headed, memoryHead}
-use Rattle.script.specs.Session.{logAt, lineLog, lineState, lineStage, Taken, roomNumber, lineTaken, takenMemory, stepAt, loggedAt, lineIn, lineb, foundTaken, foundMemory}
+use Rattle.script.specs.Session.{logAt, lineLog, lineWhole, lineStage, Taken, roomNumber, lineTaken, takenMemory, stepAt, loggedAt, lineIn, lineb, foundTaken, foundMemory}
 use Rattle.script.specs.declared.session.Logged.{Logged}
 
 -- no log line is empty: the first one
@@ -87,24 +86,24 @@ module _ (stage : ℕ) (a : Answer) (line memory : List ℕ) where
   passed-memory d e = rw (d, e, le-leb 0 (length memory) (omega arith))
 
 -- one line: what it is answered, and what its log line came to, are what it comes to
-module _ (k : State) (stage : ℕ) (line memory : List ℕ) (o : Out) (is : o ≡ lineAnswered k (stepAt stage line)) where
-  state-at : o .state ≡ lineState k stage line
-  unfolding stepAt lineAnswered lineState stays
-  state-at = ap (λ (p : Out). p .state) is ∙ elim (which (eqb stage running)) [ inl e ↦ rw e | inr e ↦ rw e ]
+module _ (k : Whole) (stage : ℕ) (line memory : List ℕ) (o : After) (is : o ≡ lineAnswered k (stepAt stage line)) where
+  whole-at : o .whole ≡ lineWhole k stage line
+  unfolding stepAt lineAnswered lineWhole stays
+  whole-at = ap (λ (p : After). p .whole) is ∙ elim (which (eqb stage running)) [ inl e ↦ rw e | inr e ↦ rw e ]
 
   log-at : logAt stage (o .answer) line ≡ lineLog k stage line
   unfolding stepAt lineLog
-  log-at = ap (λ (p : Out). logAt stage (p .answer) line) is ∙ elim (which (eqb stage running)) [ inl e ↦ rw e | inr e ↦ rw e ]
+  log-at = ap (λ (p : After). logAt stage (p .answer) line) is ∙ elim (which (eqb stage running)) [ inl e ↦ rw e | inr e ↦ rw e ]
 
   pub logged-memory : putBytes memory 0 (logAt stage (o .answer) line) ≡ takenMemory k stage line memory
   unfolding takenMemory
   logged-memory = ap (putBytes memory 0) log-at
 
   module _ (l : Logged) (so : l ≡ loggedAt stage (o .answer) line memory) where
-    pub logged-taken : l .number ≡ 0 → (record { state = o .state; stage = l .stage; written = l .written; number = 0 }) ≡ lineTaken k stage line memory
+    pub logged-taken : l .number ≡ 0 → (record { whole = o .whole; stage = l .stage; written = l .written; number = 0 }) ≡ lineTaken k stage line memory
     unfolding loggedAt lineTaken
     logged-taken n = elim (which (room memory 0 (lineLog k stage line))) [
-      | inl r ↦ rw (so, log-at, state-at, r)
+      | inl r ↦ rw (so, log-at, whole-at, r)
       | inr r ↦ absurd (let z : _≡_ {A = ℕ} 8 0 = rw (so, log-at, r) at n in omega arith)
     ]
 
@@ -116,7 +115,7 @@ module _ (k : State) (stage : ℕ) (line memory : List ℕ) (o : Out) (is : o �
     ]
 
 -- a line's end was found, or none
-module _ (k : State) (stage : ℕ) (carry bytes memory : List ℕ) where
+module _ (k : Whole) (stage : ℕ) (carry bytes memory : List ℕ) where
   pub line-taken : (f : Found) → lineb f ≡ true → lineTaken k stage (foundLine carry bytes f) memory ≡ foundTaken k stage (arrivalsOf carry bytes f) memory
   unfolding lineb foundTaken lineIn
   line-taken (found.Part start end) e = refl
@@ -139,7 +138,7 @@ none-found found.Long e = absurd (clash refl e)
 none-found found.Nothing e = refl
 
 -- where there is no room nothing is written
-module _ (k : State) (stage : ℕ) (memory : List ℕ) where
+module _ (k : Whole) (stage : ℕ) (memory : List ℕ) where
   pub stop-memory : (es : List Arrival) → ((foundTaken k stage es memory) .number ≡ 0 → ⊥) → foundMemory k stage es memory ≡ memory
   unfolding foundTaken foundMemory lineTaken takenMemory putBytes
   stop-memory [] h = refl
@@ -148,7 +147,7 @@ module _ (k : State) (stage : ℕ) (memory : List ℕ) where
     | inr r ↦ rw r
   ]
 
-  pub stop-taken : (es : List Arrival) → ((foundTaken k stage es memory) .number ≡ 0 → ⊥) → foundTaken k stage es memory ≡ record { state = k; stage = stage; written = 0; number = 8 }
+  pub stop-taken : (es : List Arrival) → ((foundTaken k stage es memory) .number ≡ 0 → ⊥) → foundTaken k stage es memory ≡ record { whole = k; stage = stage; written = 0; number = 8 }
   unfolding foundTaken lineTaken
   stop-taken [] h = absurd (h refl)
   stop-taken (e ∷ es) h = elim (which (room memory 0 (lineLog k stage (lineIn e)))) [

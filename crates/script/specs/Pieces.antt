@@ -6,8 +6,7 @@ use mathlib.Core.Option.{Option, none, some}
 use lib.Dec.{eqb}
 use lib.ListN.{length, take, drop}
 use Rattle.log_lines.specs.LogLine.{lineRoom}
-use Rattle.script.specs.Session.{freshSession, movedTo, pieceRun, endRun, endMemory}
-use Rattle.script.specs.declared.session.Session.{Session}
+use Rattle.script.specs.Session.{Script, freshScript, pieceRun, endRun, endMemory}
 
 -- bytes that newly arrive, and the memory that is lent for log lines, whatever it holds
 pub record Piece : Type 0 where
@@ -24,13 +23,13 @@ pub data AllRoomy : List Piece → Type 0 where
 
 -- a script between two calls: the session, the carry, the bytes that a stop left over, and the log so far
 pub record Underway : Type 0 where
-  pub session : Session
+  pub session : Script
   pub carry : List ℕ
   pub left : List ℕ
   pub log : List ℕ
 
-abbrev pub starting : List ℕ → Underway
-starting carry = record { session = freshSession; carry = carry; left = []; log = [] }
+abbrev pub starting : List ℕ → List ℕ → Underway
+starting block carry = record { session = freshScript block; carry = carry; left = []; log = [] }
 
 -- one call, which is handed what a stop left over and then what newly arrived: a session that stopped goes on from where it stopped
 unfoldable pub onward : Underway → Piece → Underway
@@ -38,10 +37,10 @@ onward u p =
     let bytes = u .left ++ p .bytes in
     let t = pieceRun (u .session) (u .carry) bytes (p .memory) in
     record {
-      session = movedTo t .session;
+      session = t .stand .session;
       carry = t .stand .carry;
-      left = drop (movedTo t .next) bytes;
-      log = u .log ++ take (movedTo t .written) (t .stand .memory);
+      left = drop (t .stand .next) bytes;
+      log = u .log ++ take (t .stand .written) (t .stand .memory);
     }
 
 -- one call after another

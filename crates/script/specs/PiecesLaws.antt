@@ -18,17 +18,16 @@ use Rattle.arrive.specs.FeedArrivalLaws.{of-none, feed-length, feed-arrivals, f
 use Rattle.text.specs.Lines.{lines, lineFrom, lineEnd}
 use Rattle.text.specs.Place.{room, putBytes}
 use Rattle.text.specs.PlaceLaws.{put-laid, put-kept, length-put}
-use Rattle.record.specs.DemandRecord.{freshRecord}
+use Rattle.record.specs.DemandRecord.{freshWith}
 use Rattle.words.specs.Form.{longest}
 use Rattle.script_lines.specs.LineRun.{awaiting}
 use Rattle.script.specs.WholeLog.{wholeLog}
-use Rattle.script.specs.Session.{foundTaken, turned, Stand, fedAt, carryAt, lineAt, turnAt, standAt, stopAt, through, pieceRun, lastArrivals, leftArrivals, endRun, endMemory, freshSession, standFor}
+use Rattle.script.specs.Session.{Script, foundTaken, turned, Stand, fedAt, carryAt, lineAt, turnAt, standAt, stopAt, through, pieceRun, lastArrivals, leftArrivals, endRun, endMemory, freshScript, standFor}
 use Rattle.script.specs.SessionLaws.{turn-next, stand-next, one-left, end-stopped}
-use Rattle.script.specs.RoomLaws.{found-stands, one-arrival, written, turn-fits, turn-state, turn-stage, turn-log}
+use Rattle.script.specs.RoomLaws.{found-stands, one-arrival, written, turn-fits, turn-whole, turn-stage, turn-log}
 use Rattle.script.specs.ToComeLaws.{all-append, end-log, all-log}
-use Rattle.script.specs.ToCome.{arrivalsLog, arrivalsState, arrivalsStage, allLog, toCome, comes}
+use Rattle.script.specs.ToCome.{arrivalsLog, arrivalsWhole, arrivalsStage, allLog, toCome, comes}
 use Rattle.script.specs.Pieces.{Piece, Underway, starting, onward, underway, endedWith}
-use Rattle.script.specs.declared.session.Session.{Session}
 
 -- a call leaves the first bytes of the carry, which it holds of a line, as they were
 module _ (carry : List ℕ) (held : ℕ) where
@@ -83,19 +82,19 @@ module _ (bytes : List ℕ) (later : List (List ℕ)) where
   turn-came x fits n =
       let es = lineAt bytes x in
       let rest = arrived (length (x .carry)) (unendedOf (carryAt bytes x) (fedAt bytes x .held)) (drop (fedAt bytes x .next) bytes ∷ later) in
-      let k = x .session .state in
+      let k = x .session .whole in
       let stage = x .session .stage in
       ap (λ l. written x ++ allLog k stage l) (arrived-turn x)
       ∙ ap (λ l. written x ++ l) (all-append es rest k stage)
-      ∙ sym (append-assoc (written x) (arrivalsLog k stage es) (allLog (arrivalsState k stage es) (arrivalsStage stage es) rest))
-      ∙ (λ i. sym (turn-log bytes x fits n) i ++ allLog (sym (turn-state bytes x fits n) i) (sym (turn-stage bytes x fits n) i) rest)
-      ∙ ap (λ r. written (standAt bytes x) ++ allLog ((standAt bytes x) .session .state) ((standAt bytes x) .session .stage) r) (rest-is x)
+      ∙ sym (append-assoc (written x) (arrivalsLog k stage es) (allLog (arrivalsWhole k stage es) (arrivalsStage stage es) rest))
+      ∙ (λ i. sym (turn-log bytes x fits n) i ++ allLog (sym (turn-whole bytes x fits n) i) (sym (turn-stage bytes x fits n) i) rest)
+      ∙ ap (λ r. written (standAt bytes x) ++ allLog ((standAt bytes x) .session .whole) ((standAt bytes x) .session .stage) r) (rest-is x)
 
   -- a stop leaves all as it was
   stop-came : (x : Stand) → cameTo (length (x .carry)) bytes later x ≡ cameTo (length (x .carry)) bytes later (stopAt bytes x)
   unfolding cameTo toCome
   stop-came x =
-      ap (λ s. written x ++ allLog (x .session .state) (x .session .stage) (arrived (length (x .carry)) s (drop (x .next) bytes ∷ later)))
+      ap (λ s. written x ++ allLog (x .session .whole) (x .session .stage) (arrived (length (x .carry)) s (drop (x .next) bytes ∷ later)))
       (sym (stays-held (x .carry) (x .session .held) bytes (x .next)))
 
   -- so from any place of a piece on, whether it stops or not
@@ -139,7 +138,7 @@ call-came u p later =
     let s = u .session in
     let x = standFor s (u .carry) (p .memory) in
     let t = (through (length bytes) bytes x) .stand in
-    ap (λ l. u .log ++ allLog (s .state) (s .stage) l) (arrived-join (unendedOf (u .carry) (s .held)) (length (u .carry)) (u .left) (p .bytes) later)
+    ap (λ l. u .log ++ allLog (s .whole) (s .stage) l) (arrived-join (unendedOf (u .carry) (s .held)) (length (u .carry)) (u .left) (p .bytes) later)
     ∙ ap (λ l. u .log ++ l) (through-came bytes later (length bytes) x (omega arith) (omega arith))
     ∙ ap (λ n. u .log ++ (written t ++ toCome n (t .session) (t .carry) (drop (t .next) bytes) later)) (sym (through-size (length bytes) bytes x))
     ∙ sym (append-assoc (u .log) (written t) (toCome (length (t .carry)) (t .session) (t .carry) (drop (t .next) bytes) later))
@@ -151,23 +150,23 @@ calls-came [] u later = refl
 calls-came (p ∷ ps) u later = call-came u p (map (λ q. q .bytes) ps ++ later) ∙ calls-came ps (onward u p) later
 
 -- the end writes what is still to come where nothing is left over, or is answered 8 and changes nothing
-last-came : (s : Session) (carry memory : List ℕ) → (endRun s carry memory) .number ≡ 0
-    → take ((endRun s carry memory) .written) (endMemory s carry memory) ≡ allLog (s .state) (s .stage) (finished (unendedOf carry (s .held)))
+last-came : (s : Script) (carry memory : List ℕ) → (endRun s carry memory) .number ≡ 0
+    → take ((endRun s carry memory) .written) (endMemory s carry memory) ≡ allLog (s .whole) (s .stage) (finished (unendedOf carry (s .held)))
 unfolding endRun endMemory leftArrivals
 last-came s carry memory n =
     let es = arrivalsOf carry [] (lastFound carry (s .held)) in
-    (found-stands (s .state) (s .stage) memory (lastArrivals (s .stage) es) (one-left (s .stage) carry (s .held)) n) .log
-    ∙ end-log (s .state) (s .stage) es (one-arrival carry [] (lastFound carry (s .held)))
-    ∙ ap (allLog (s .state) (s .stage)) (last-arrival carry (s .held))
+    (found-stands (s .whole) (s .stage) memory (lastArrivals (s .stage) es) (one-left (s .stage) carry (s .held)) n) .log
+    ∙ end-log (s .whole) (s .stage) es (one-arrival carry [] (lastFound carry (s .held)))
+    ∙ ap (allLog (s .whole) (s .stage)) (last-arrival carry (s .held))
 
-nothing-left : (u : Underway) → u .left ≡ [] → comes u [] ≡ allLog (u .session .state) (u .session .stage) (finished (unendedOf (u .carry) (u .session .held)))
+nothing-left : (u : Underway) → u .left ≡ [] → comes u [] ≡ allLog (u .session .whole) (u .session .stage) (finished (unendedOf (u .carry) (u .session .held)))
 unfolding comes toCome arrived arrivals unendedAfter
 nothing-left u e = rw e
 
-end-as-handed-in : (s : Session) (carry memory : List ℕ) (n : (endRun s carry memory) .number ≡ 0 → ⊥)
+end-as-handed-in : (s : Script) (carry memory : List ℕ) (n : (endRun s carry memory) .number ≡ 0 → ⊥)
     → (record { session = s; next = 0; written = 0; number = (endRun s carry memory) .number }) ≡ endRun s carry memory
 unfolding endRun
-end-as-handed-in s carry memory n = end-stopped s carry memory (foundTaken (s .state) (s .stage) (leftArrivals (s .stage) carry (s .held)) memory) refl n
+end-as-handed-in s carry memory n = end-stopped s carry memory (foundTaken (s .whole) (s .stage) (leftArrivals (s .stage) carry (s .held)) memory) refl n
 
 stop-again : (u : Underway) (memory : List ℕ) → ((endRun (u .session) (u .carry) memory) .number ≡ 0 → ⊥)
     → (record {
@@ -194,21 +193,21 @@ ended-came (memory ∷ more) u log e h = elim (which (eqb ((endRun (u .session) 
 ]
 
 -- at first, all is still to come
-starting-comes : (carry : List ℕ) (later : List (List ℕ)) → length carry ≡ longest → comes (starting carry) later ≡ wholeLog (flatten later)
-unfolding comes toCome freshSession wholeLog flatten
-starting-comes carry later size =
-    rw (size, of-none carry) (ap (allLog freshRecord awaiting) (arrived-lines longest ([] ∷ later)) ∙ all-log (lines (flatten later)))
+starting-comes : (block carry : List ℕ) (later : List (List ℕ)) → length carry ≡ longest → comes (starting block carry) later ≡ wholeLog block (flatten later)
+unfolding comes toCome freshScript wholeLog flatten
+starting-comes block carry later size =
+    rw (size, of-none carry) (ap (allLog (freshWith block) awaiting) (arrived-lines longest ([] ∷ later)) ∙ all-log block (lines (flatten later)))
 
 -- at every moment the log so far, and what is still to come of what is left over and what arrives later, are the whole log of the whole script
-pub moment-whole : (ps : List Piece) (carry : List ℕ) (later : List (List ℕ)) → length carry ≡ longest
-    → (underway (starting carry) ps) .log ++ comes (underway (starting carry) ps) later ≡ wholeLog (flatten (map (λ p. p .bytes) ps ++ later))
-moment-whole ps carry later size = sym (calls-came ps (starting carry) later) ∙ starting-comes carry (map (λ p. p .bytes) ps ++ later) size
+pub moment-whole : (ps : List Piece) (block carry : List ℕ) (later : List (List ℕ)) → length carry ≡ longest
+    → (underway (starting block carry) ps) .log ++ comes (underway (starting block carry) ps) later ≡ wholeLog block (flatten (map (λ p. p .bytes) ps ++ later))
+moment-whole ps block carry later size = sym (calls-came ps (starting block carry) later) ∙ starting-comes block carry (map (λ p. p .bytes) ps ++ later) size
 
 -- so once nothing is left over and the end is answered 0, the log is the whole log, however the bytes arrived and whatever memory was lent
-pub pieces-whole : (ps : List Piece) (ends : List (List ℕ)) (carry log : List ℕ) → length carry ≡ longest
-    → (underway (starting carry) ps) .left ≡ [] → endedWith (underway (starting carry) ps) ends ≡ some log
-    → log ≡ wholeLog (flatten (map (λ p. p .bytes) ps))
-pieces-whole ps ends carry log size none-left answered =
-    ended-came ends (underway (starting carry) ps) log none-left answered
-    ∙ moment-whole ps carry [] size
-    ∙ ap (λ l. wholeLog (flatten l)) (append-nil (map (λ p. p .bytes) ps))
+pub pieces-whole : (ps : List Piece) (ends : List (List ℕ)) (block carry log : List ℕ) → length carry ≡ longest
+    → (underway (starting block carry) ps) .left ≡ [] → endedWith (underway (starting block carry) ps) ends ≡ some log
+    → log ≡ wholeLog block (flatten (map (λ p. p .bytes) ps))
+pieces-whole ps ends block carry log size none-left answered =
+    ended-came ends (underway (starting block carry) ps) log none-left answered
+    ∙ moment-whole ps block carry [] size
+    ∙ ap (λ l. wholeLog block (flatten l)) (append-nil (map (λ p. p .bytes) ps))

@@ -14,13 +14,12 @@ use Rattle.text.specs.Lines.{lf, lineEnd}
 use Rattle.text.specs.CutLaws.{upTo-most}
 use Rattle.words.specs.Form.{longest}
 use Rattle.script.specs.WholeLog.{wholeLog}
-use Rattle.script.specs.Session.{turned, Stand, turnAt, standAt, through, pieceRun, leftArrivals, endRun, endMemory, standFor}
+use Rattle.script.specs.Session.{Script, turned, Stand, turnAt, standAt, through, pieceRun, leftArrivals, endRun, endMemory, standFor}
 use Rattle.script.specs.SessionLaws.{turn-next, stand-next}
 use Rattle.script.specs.RoomLaws.{found-fits, turn-length, turn-few, turn-room}
 use Rattle.script.specs.Pieces.{Piece, AllRoomy, more-roomy, Underway, starting, onward, underway, endedWith}
 use Rattle.log_lines.specs.LogLine.{lineRoom}
 use Rattle.script.specs.PiecesLaws.{pieces-whole}
-use Rattle.script.specs.declared.session.Session.{Session}
 
 -- a turn ends behind the next line's end, or at the piece's end
 turn-end : (bytes : List ℕ) (x : Stand) → lineEnd bytes (x .next) < length bytes → (turnAt bytes x) .next ≡ lineEnd bytes (x .next) + 1
@@ -83,7 +82,7 @@ module _ (bytes : List ℕ) where
   ]
 
 -- a whole piece
-module _ (s : Session) (carry bytes memory : List ℕ) where
+module _ (s : Script) (carry bytes memory : List ℕ) where
   pub piece-placed : Placed bytes 0 ((pieceRun s carry bytes memory) .stand .next) ((pieceRun s carry bytes memory) .number)
   unfolding pieceRun
   piece-placed = through-placed bytes (length bytes) (standFor s carry memory) (omega arith) (omega arith)
@@ -110,7 +109,7 @@ module _ (s : Session) (carry bytes memory : List ℕ) where
   -- and with 33 bytes the end is answered 0
   pub end-room : lineRoom ≤ length memory → (endRun s carry memory) .number ≡ 0
   unfolding endRun
-  end-room room = found-fits (s .state) (s .stage) memory (leftArrivals (s .stage) carry (s .held)) room
+  end-room room = found-fits (s .whole) (s .stage) memory (leftArrivals (s .stage) carry (s .held)) room
 
 -- so with room nothing is ever left over, and one attempt at the end gives the whole log
 roomy-left : (ps : List Piece) (u : Underway) → AllRoomy ps → u .left ≡ [] → (underway u ps) .left ≡ []
@@ -129,9 +128,9 @@ roomy-ended : (u : Underway) (last : List ℕ) → lineRoom ≤ length last
 unfolding endedWith
 roomy-ended u last room = rw (eq-eqb _ _ (end-room (u .session) (u .carry) [] last room))
 
-pub roomy-whole : (ps : List Piece) (carry last : List ℕ) → length carry ≡ longest → AllRoomy ps → lineRoom ≤ length last
-    → endedWith (underway (starting carry) ps) (last ∷ []) ≡ some (wholeLog (flatten (map (λ p. p .bytes) ps)))
-roomy-whole ps carry last size roomy room =
-    let u = underway (starting carry) ps in
+pub roomy-whole : (ps : List Piece) (block carry last : List ℕ) → length carry ≡ longest → AllRoomy ps → lineRoom ≤ length last
+    → endedWith (underway (starting block carry) ps) (last ∷ []) ≡ some (wholeLog block (flatten (map (λ p. p .bytes) ps)))
+roomy-whole ps block carry last size roomy room =
+    let u = underway (starting block carry) ps in
     let answered = roomy-ended u last room in
-    answered ∙ ap some (pieces-whole ps (last ∷ []) carry _ size (roomy-left ps (starting carry) roomy refl) answered)
+    answered ∙ ap some (pieces-whole ps (last ∷ []) block carry _ size (roomy-left ps (starting block carry) roomy refl) answered)

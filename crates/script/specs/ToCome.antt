@@ -6,21 +6,20 @@ use lib.Dec.{eqb}
 use lib.ListN.{length}
 use Rattle.arrive.specs.Arrive.{Arrival, arrived}
 use Rattle.arrive.specs.Feed.{unendedOf}
-use Rattle.record.specs.declared.State.{State}
+use Rattle.record.specs.Whole.{Whole}
 use Rattle.log_lines.specs.LogLine.{badBytes}
 use Rattle.script_lines.specs.LineRun.{awaiting}
-use Rattle.script.specs.Session.{lineLog, lineState, lineStage, lineIn}
+use Rattle.script.specs.Session.{Script, lineLog, lineWhole, lineStage, lineIn}
 use Rattle.script.specs.Pieces.{Underway}
-use Rattle.script.specs.declared.session.Session.{Session}
 
 -- what a row of lines puts into the log, and the record and the stage after it
-unfoldable pub arrivalsLog : State → ℕ → List Arrival → List ℕ
-arrivalsLog k stage [] = []
-arrivalsLog k stage (e ∷ es) = lineLog k stage (lineIn e) ++ arrivalsLog (lineState k stage (lineIn e)) (lineStage stage (lineIn e)) es
+unfoldable pub arrivalsLog : Whole → ℕ → List Arrival → List ℕ
+arrivalsLog h stage [] = []
+arrivalsLog h stage (e ∷ es) = lineLog h stage (lineIn e) ++ arrivalsLog (lineWhole h stage (lineIn e)) (lineStage stage (lineIn e)) es
 
-unfoldable pub arrivalsState : State → ℕ → List Arrival → State
-arrivalsState k stage [] = k
-arrivalsState k stage (e ∷ es) = arrivalsState (lineState k stage (lineIn e)) (lineStage stage (lineIn e)) es
+unfoldable pub arrivalsWhole : Whole → ℕ → List Arrival → Whole
+arrivalsWhole h stage [] = h
+arrivalsWhole h stage (e ∷ es) = arrivalsWhole (lineWhole h stage (lineIn e)) (lineStage stage (lineIn e)) es
 
 unfoldable pub arrivalsStage : ℕ → List Arrival → ℕ
 arrivalsStage stage [] = stage
@@ -31,12 +30,12 @@ unfoldable pub closing : ℕ → List ℕ
 closing stage = cond (eqb stage awaiting) badBytes []
 
 -- the log that a row of lines comes to, the end included
-unfoldable pub allLog : State → ℕ → List Arrival → List ℕ
-allLog k stage es = arrivalsLog k stage es ++ closing (arrivalsStage stage es)
+unfoldable pub allLog : Whole → ℕ → List Arrival → List ℕ
+allLog h stage es = arrivalsLog h stage es ++ closing (arrivalsStage stage es)
 
 -- the log that is still to come, of a session and its carry: from the bytes `text`, those that arrive later, and the end
-unfoldable pub toCome : ℕ → Session → List ℕ → List ℕ → List (List ℕ) → List ℕ
-toCome most s carry text later = allLog (s .state) (s .stage) (arrived most (unendedOf carry (s .held)) (text ∷ later))
+unfoldable pub toCome : ℕ → Script → List ℕ → List ℕ → List (List ℕ) → List ℕ
+toCome most s carry text later = allLog (s .whole) (s .stage) (arrived most (unendedOf carry (s .held)) (text ∷ later))
 
 -- what is still to come between two calls, if nothing but `later` arrives
 unfoldable pub comes : Underway → List (List ℕ) → List ℕ

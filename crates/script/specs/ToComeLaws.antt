@@ -13,8 +13,8 @@ use Rattle.lists.specs.TestLaws.{which, by-test}
 use Rattle.arrive.specs.Arrive.{Arrival, Line, marked}
 use Rattle.text.specs.Cut.{pieces}
 use Rattle.text.specs.Fields.{fields}
-use Rattle.record.specs.DemandRecord.{freshRecord}
-use Rattle.record.specs.declared.State.{State}
+use Rattle.record.specs.DemandRecord.{freshWith}
+use Rattle.record.specs.Whole.{Whole}
 use Rattle.text.specs.Ascii.{ascii}
 use Rattle.words.specs.Form.{longest, words, sameBytes, numbersOf, madeBy, madeFrom, stepIn, stepOn}
 use Rattle.log_lines.specs.LogLine.{logBytes, badBytes}
@@ -22,16 +22,16 @@ use Rattle.words.specs.Form.{headerBytes}
 use Rattle.words.specs.SameLaws.{same-length}
 use Rattle.script_lines.specs.LineRun.{awaiting, running, over, lineAnswered, lineFor, headLog, headStage}
 use Rattle.script.specs.WholeLog.{logFrom, logOf}
-use Rattle.script.specs.Session.{lineLog, lineState, lineStage, lineIn, lastArrivals}
-use Rattle.script.specs.ToCome.{arrivalsLog, arrivalsState, arrivalsStage, closing, allLog}
+use Rattle.script.specs.Session.{lineLog, lineWhole, lineStage, lineIn, lastArrivals}
+use Rattle.script.specs.ToCome.{arrivalsLog, arrivalsWhole, arrivalsStage, closing, allLog}
 
 -- in two rows
-log-append : (a b : List Arrival) (k : State) (stage : ℕ) → arrivalsLog k stage (a ++ b) ≡ arrivalsLog k stage a ++ arrivalsLog (arrivalsState k stage a) (arrivalsStage stage a) b
-unfolding arrivalsLog arrivalsState arrivalsStage
+log-append : (a b : List Arrival) (k : Whole) (stage : ℕ) → arrivalsLog k stage (a ++ b) ≡ arrivalsLog k stage a ++ arrivalsLog (arrivalsWhole k stage a) (arrivalsStage stage a) b
+unfolding arrivalsLog arrivalsWhole arrivalsStage
 log-append [] b k stage = refl
 log-append (e ∷ a) b k stage =
-    rw (log-append a b (lineState k stage (lineIn e)) (lineStage stage (lineIn e)))
-    (sym (append-assoc (lineLog k stage (lineIn e)) (arrivalsLog (lineState k stage (lineIn e)) (lineStage stage (lineIn e)) a) _))
+    rw (log-append a b (lineWhole k stage (lineIn e)) (lineStage stage (lineIn e)))
+    (sym (append-assoc (lineLog k stage (lineIn e)) (arrivalsLog (lineWhole k stage (lineIn e)) (lineStage stage (lineIn e)) a) _))
 
 stage-append : (a b : List Arrival) (stage : ℕ) → arrivalsStage stage (a ++ b) ≡ arrivalsStage (arrivalsStage stage a) b
 unfolding arrivalsStage
@@ -50,7 +50,7 @@ line-moves stage line = elim (which (eqb stage running)) [
 ]
 
 -- not even a first line: as with an empty one
-no-line : (k : State) → arrivalsLog k awaiting (Line [] ∷ []) ≡ closing awaiting
+no-line : (k : Whole) → arrivalsLog k awaiting (Line [] ∷ []) ≡ closing awaiting
 unfolding arrivalsLog lineLog lineIn headLog sameBytes headerBytes closing badBytes ascii
 no-line k = refl
 
@@ -59,7 +59,7 @@ unfolding closing
 none-closes stage e = rw e
 
 -- the end: the line that was left, or `bad` where not even a first line came
-pub end-log : (k : State) (stage : ℕ) (es : List Arrival) → length es ≤ 1 → arrivalsLog k stage (lastArrivals stage es) ≡ allLog k stage es
+pub end-log : (k : Whole) (stage : ℕ) (es : List Arrival) → length es ≤ 1 → arrivalsLog k stage (lastArrivals stage es) ≡ allLog k stage es
 unfolding lastArrivals allLog arrivalsLog arrivalsStage
 end-log k stage [] h = elim (which (eqb stage awaiting)) [
   | inl e ↦ let z : stage ≡ awaiting = eqb-true _ _ e in rw z (no-line k)
@@ -68,11 +68,11 @@ end-log k stage [] h = elim (which (eqb stage awaiting)) [
 end-log k stage (e ∷ []) h = sym (rw (line-moves stage (lineIn e)) (append-nil (lineLog k stage (lineIn e) ++ [])))
 end-log k stage (e ∷ d ∷ es) h = absurd (omega arith)
 
-pub all-append : (a b : List Arrival) (k : State) (stage : ℕ) → allLog k stage (a ++ b) ≡ arrivalsLog k stage a ++ allLog (arrivalsState k stage a) (arrivalsStage stage a) b
+pub all-append : (a b : List Arrival) (k : Whole) (stage : ℕ) → allLog k stage (a ++ b) ≡ arrivalsLog k stage a ++ allLog (arrivalsWhole k stage a) (arrivalsStage stage a) b
 unfolding allLog
 all-append a b k stage =
     rw (log-append a b k stage, stage-append a b stage)
-    (append-assoc (arrivalsLog k stage a) (arrivalsLog (arrivalsState k stage a) (arrivalsStage stage a) b) (closing (arrivalsStage (arrivalsStage stage a) b)))
+    (append-assoc (arrivalsLog k stage a) (arrivalsLog (arrivalsWhole k stage a) (arrivalsStage stage a) b) (closing (arrivalsStage (arrivalsStage stage a) b)))
 
 -- an over-long line is no step and no first line, as an empty one is none
 empty-none : stepOn [] ≡ none
@@ -104,32 +104,32 @@ marked-head line = elim (which (leb (length line) longest)) [
 ]
 
 -- the lines after the first: each is run, or, behind a bad first line, none is
-running-log : (ls : List (List ℕ)) (k : State) → allLog k running (map (marked longest) ls) ≡ logFrom k ls
-unfolding allLog arrivalsLog arrivalsStage lineLog lineState lineStage closing logFrom
+running-log : (ls : List (List ℕ)) (k : Whole) → allLog k running (map (marked longest) ls) ≡ logFrom k ls
+unfolding allLog arrivalsLog arrivalsStage lineLog lineWhole lineStage closing logFrom
 running-log [] k = refl
 running-log (l ∷ ls) k =
     let o = lineAnswered k (stepOn l) in
-    rw (marked-step l) (append-assoc (lineFor (o .answer)) (arrivalsLog (o .state) running (map (marked longest) ls)) (closing (arrivalsStage running (map (marked longest) ls)))
-    ∙ ap (λ r. lineFor (o .answer) ++ r) (running-log ls (o .state)))
+    rw (marked-step l) (append-assoc (lineFor (o .answer)) (arrivalsLog (o .whole) running (map (marked longest) ls)) (closing (arrivalsStage running (map (marked longest) ls)))
+    ∙ ap (λ r. lineFor (o .answer) ++ r) (running-log ls (o .whole)))
 
-over-log : (ls : List (List ℕ)) (k : State) → allLog k over (map (marked longest) ls) ≡ []
-unfolding allLog arrivalsLog arrivalsStage lineLog lineState lineStage closing
+over-log : (ls : List (List ℕ)) (k : Whole) → allLog k over (map (marked longest) ls) ≡ []
+unfolding allLog arrivalsLog arrivalsStage lineLog lineWhole lineStage closing
 over-log [] k = refl
 over-log (l ∷ ls) k = over-log ls k
 
 -- the first line
-first-log : (k : State) (e : Arrival) (es : List Arrival) → allLog k awaiting (e ∷ es) ≡ headLog (lineIn e) ++ allLog k (headStage (lineIn e)) es
-unfolding allLog arrivalsLog arrivalsStage lineLog lineState lineStage
+first-log : (k : Whole) (e : Arrival) (es : List Arrival) → allLog k awaiting (e ∷ es) ≡ headLog (lineIn e) ++ allLog k (headStage (lineIn e)) es
+unfolding allLog arrivalsLog arrivalsStage lineLog lineWhole lineStage
 first-log k e es = append-assoc (headLog (lineIn e)) (arrivalsLog k (headStage (lineIn e)) es) (closing (arrivalsStage (headStage (lineIn e)) es))
 
-pub all-log : (ls : List (List ℕ)) → allLog freshRecord awaiting (map (marked longest) ls) ≡ logOf ls
+pub all-log : (block : List ℕ) (ls : List (List ℕ)) → allLog (freshWith block) awaiting (map (marked longest) ls) ≡ logOf block ls
 unfolding allLog arrivalsLog arrivalsStage closing logOf headLog headStage
-all-log [] = refl
-all-log (l ∷ ls) = first-log freshRecord (marked longest l) (map (marked longest) ls) ∙ (rw (marked-head l) (go (sameBytes l headerBytes)))
+all-log block [] = refl
+all-log block (l ∷ ls) = first-log (freshWith block) (marked longest l) (map (marked longest) ls) ∙ (rw (marked-head l) (go (sameBytes l headerBytes)))
   where
     rest : ℕ → List ℕ
-    rest stage = allLog freshRecord stage (map (marked longest) ls)
+    rest stage = allLog (freshWith block) stage (map (marked longest) ls)
 
-    go : (b : Bool) → cond b logBytes badBytes ++ rest (cond b running over) ≡ cond b (logBytes ++ logFrom freshRecord ls) badBytes
-    go true = ap (λ r. logBytes ++ r) (running-log ls freshRecord)
-    go false = ap (λ r. badBytes ++ r) (over-log ls freshRecord) ∙ append-nil badBytes
+    go : (b : Bool) → cond b logBytes badBytes ++ rest (cond b running over) ≡ cond b (logBytes ++ logFrom (freshWith block) ls) badBytes
+    go true = ap (λ r. logBytes ++ r) (running-log ls (freshWith block))
+    go false = ap (λ r. badBytes ++ r) (over-log ls (freshWith block)) ∙ append-nil badBytes

@@ -1,18 +1,20 @@
 // A script whose bytes arrive in any pieces, run line by line.
 ghost use mathlib.Core.Path.{_≡_};
 ghost use Rattle.text.specs.Place.{putBytes};
-ghost use Rattle.words.specs.Reading.{readingFor};
-ghost use Rattle.script.specs.Session.{freshSession, lineb, leftb, stepAt, logAt, loggedAt, roomNumber, movedWith, movedTo, pieceRun, endRun, endMemory};
+ghost use Rattle.syntax.specs.Line.{lineRead};
+ghost use Rattle.script.specs.Session.{freshSession, scriptOf, lineb, leftb, stepAt, logAt, loggedAt, roomNumber, movedWith, movedOf, movedTo, pieceRun, endRun, endMemory};
 use arrive::Found;
 use record::Answer;
 use record::State;
 use script_lines::run;
 use script_lines::run::AWAITING;
 use script_lines::run::RUNNING;
+use syntax::Line;
 use text::place::Put;
 use words::Reading;
 
-// What a script has come to: the record, where it stands, and how many bytes of a line the carry holds.
+// What a script has come to: the record, where it stands, and how many bytes of a line the carry holds. The words that tasks hold, WORDS of them, and the
+// block for queues are lent with each call, the same as the last call left them; at first the words are 0.
 pub struct Session {
     pub state: State,
     pub stage: u8,
@@ -60,13 +62,17 @@ fn is_line(found: Found) -> bool
 }
 
 // The step that a line is. Before a good first line, and after a bad one, no line is a step.
-fn read(stage: u8, line: &[u8]) -> Reading
-    ensures { λ r. ⌜ r ≡ readingFor (stepAt stage (now (line .entry))) ⌝ }
+fn read(stage: u8, line: &[u8]) -> Line
+    ensures { λ r. ⌜ r ≡ lineRead (stepAt stage (now (line .entry))) ⌝ }
 {
     if stage == RUNNING {
         return syntax::read_line(line);
     }
-    Reading::Malformed
+    let message = words::no_message();
+    Line {
+        reading: Reading::Malformed,
+        message,
+    }
 }
 
 // The log's 8 where nothing was written: no log line is empty.
@@ -131,20 +137,29 @@ fn came_to(state: State, stage: u8, held: usize, next: usize, written: usize, nu
 }
 
 // A piece of the script, with lent memory for the log lines of the lines that end in it. A line longer than the carry, which has LONGEST bytes,
-// is answered 14. At a line whose log line has no room it stops with 8, the record as before that line: the caller writes the log, and goes
-// on with the bytes from `next` on, the same carry and more memory. 33 bytes are room for any line.
+// is answered 14. At a line whose log line has no room it stops with 8, record, words and block as before that line: the caller writes the log, and
+// goes on with the bytes from `next` on, the same carry and more memory. 33 bytes are room for any line.
 // The record is tested once: a line leaves a sound one sound, and one that isn't as it was.
-pub fn arrive(session: Session, carry: &mut [u8], bytes: &[u8], log: &mut [u8]) -> Moved
-    ensures answer { λ r. ⌜ r ≡ movedTo (pieceRun session (now (carry .entry)) (now (bytes .entry)) (now (log .entry))) ⌝ }
-    ensures carried { λ r. ⌜ now (carry .exit) ≡ pieceRun session (now (carry .entry)) (now (bytes .entry)) (now (log .entry)) .stand .carry ⌝ }
-    ensures memory { λ r. ⌜ now (log .exit) ≡ pieceRun session (now (carry .entry)) (now (bytes .entry)) (now (log .entry)) .stand .memory ⌝ }
+pub fn arrive(
+    session: Session,
+    words: &mut [u32],
+    block: &mut [u32],
+    carry: &mut [u8],
+    bytes: &[u8],
+    log: &mut [u8],
+) -> Moved
+    ensures answer { λ r. ⌜ r ≡ movedTo (pieceRun (scriptOf session (now (words .entry)) (now (block .entry))) (now (carry .entry)) (now (bytes .entry)) (now (log .entry))) ⌝ }
+    ensures held { λ r. ⌜ now (words .exit) ≡ pieceRun (scriptOf session (now (words .entry)) (now (block .entry))) (now (carry .entry)) (now (bytes .entry)) (now (log .entry)) .stand .session .whole .words ⌝ }
+    ensures lent { λ r. ⌜ now (block .exit) ≡ pieceRun (scriptOf session (now (words .entry)) (now (block .entry))) (now (carry .entry)) (now (bytes .entry)) (now (log .entry)) .stand .session .whole .block ⌝ }
+    ensures carried { λ r. ⌜ now (carry .exit) ≡ pieceRun (scriptOf session (now (words .entry)) (now (block .entry))) (now (carry .entry)) (now (bytes .entry)) (now (log .entry)) .stand .carry ⌝ }
+    ensures memory { λ r. ⌜ now (log .exit) ≡ pieceRun (scriptOf session (now (words .entry)) (now (block .entry))) (now (carry .entry)) (now (bytes .entry)) (now (log .entry)) .stand .memory ⌝ }
 {
     let mut state = session.state;
     let mut stage = session.stage;
     let mut held = session.held;
     let mut at = 0;
     let mut written = 0;
-    let sound = sound::is_sound(state);
+    let sound = sound::is_sound(state, words, block.len());
     while at < bytes.len() {
         let f = arrive::feed(carry, held, bytes, at);
         let found = f.found;
@@ -153,14 +168,16 @@ pub fn arrive(session: Session, carry: &mut [u8], bytes: &[u8], log: &mut [u8]) 
             return came_to(state, stage, f.held, f.next, written, 0);
         }
         let line = arrive::line(carry, bytes, found);
-        let reading = read(stage, line);
-        let o = run::answer(state, sound, reading);
-        let a = o.answer;
+        let r = read(stage, line);
+        let p = run::answer(state, sound, r, block.len(), words);
+        let a = p.answer;
+        let m = p.moves;
         let l = log_line(stage, a, line, &mut log[written..]);
         if l.number != 0 {
             return came_to(state, stage, held, at, written, l.number);
         }
-        state = o.state;
+        run::make(m, r.message, words, block);
+        state = p.state;
         stage = l.stage;
         held = f.held;
         at = f.next;
@@ -179,11 +196,19 @@ fn is_left(stage: u8, held: usize) -> bool
     true
 }
 
-// The end of the script, with lent memory for one log line. Where it has no room the number is 8 and the session is the one handed in, for
+// The end of the script, with lent memory for one log line. Where it has no room the number is 8 and session, words and block are as handed in, for
 // another call with more memory. No bytes are handed in, so `next` is 0.
-pub fn end(session: Session, carry: &[u8], log: &mut [u8]) -> Moved
-    ensures answer { λ r. ⌜ r ≡ endRun session (now (carry .entry)) (now (log .entry)) ⌝ }
-    ensures memory { λ r. ⌜ now (log .exit) ≡ endMemory session (now (carry .entry)) (now (log .entry)) ⌝ }
+pub fn end(
+    session: Session,
+    words: &mut [u32],
+    block: &mut [u32],
+    carry: &[u8],
+    log: &mut [u8],
+) -> Moved
+    ensures answer { λ r. ⌜ r ≡ movedOf (endRun (scriptOf session (now (words .entry)) (now (block .entry))) (now (carry .entry)) (now (log .entry))) ⌝ }
+    ensures held { λ r. ⌜ now (words .exit) ≡ endRun (scriptOf session (now (words .entry)) (now (block .entry))) (now (carry .entry)) (now (log .entry)) .session .whole .words ⌝ }
+    ensures lent { λ r. ⌜ now (block .exit) ≡ endRun (scriptOf session (now (words .entry)) (now (block .entry))) (now (carry .entry)) (now (log .entry)) .session .whole .block ⌝ }
+    ensures memory { λ r. ⌜ now (log .exit) ≡ endMemory (scriptOf session (now (words .entry)) (now (block .entry))) (now (carry .entry)) (now (log .entry)) ⌝ }
 {
     let state = session.state;
     let stage = session.stage;
@@ -194,14 +219,15 @@ pub fn end(session: Session, carry: &[u8], log: &mut [u8]) -> Moved
     let none = &carry[..0];
     let found = arrive::finish(carry, held);
     let line = arrive::line(carry, none, found);
-    let reading = read(stage, line);
-    let sound = sound::is_sound(state);
-    let o = run::answer(state, sound, reading);
-    let a = o.answer;
-    let next = o.state;
+    let r = read(stage, line);
+    let sound = sound::is_sound(state, words, block.len());
+    let p = run::answer(state, sound, r, block.len(), words);
+    let a = p.answer;
+    let m = p.moves;
     let l = log_line(stage, a, line, log);
     if l.number != 0 {
         return came_to(state, stage, held, 0, 0, l.number);
     }
-    came_to(next, l.stage, 0, 0, l.written, 0)
+    run::make(m, r.message, words, block);
+    came_to(p.state, l.stage, 0, 0, l.written, 0)
 }

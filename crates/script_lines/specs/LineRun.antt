@@ -1,57 +1,78 @@
--- One line run on a record with lent memory for its log line: what comes back for every record, every line and every length.
+-- One line run on a record with its words and block, and with lent memory for its log line: what comes back for every record, every line and every length.
+use mathlib.Core.Path.{_≡_}
 use Prim.Native.Nat.{ℕ}
 use mathlib.Core.List.{List}
 use mathlib.Core.Bool.{Bool, cond}
 use mathlib.Core.Option.{Option, none, some}
-use lib.ListN.{length}
+use lib.ListN.{length, take}
 use Rattle.text.specs.Place.{room, putBytes}
 use Rattle.rules.specs.Step.{Step}
-use Rattle.record.specs.StepRecord.{numberOf, valueOf, runOf, stays, stepOf}
-use Rattle.record.specs.DemandRecord.{requestFor, standingBy, standingIn}
+use Rattle.record.specs.Whole.{Whole, whole}
+use Rattle.record.specs.StepRecord.{stepFor, numberOf, valueOf, runOf, After, stays, standingIn, stepBy}
 use Rattle.record.specs.declared.State.{State}
-use Rattle.record.specs.declared.Out.{Out}
 use Rattle.record.specs.declared.Answer.{Answer}
-use Rattle.machine.specs.Machine.{machineStep}
+use Rattle.record.specs.declared.Plan.{Plan}
+use Rattle.machine.specs.Planned.{carried}
+use Rattle.kernel.specs.Planning.{Known}
 use Rattle.words.specs.Form.{sameBytes, stepOn}
 use Rattle.log_lines.specs.LogLine.{lineBytes, logBytes, badBytes}
 use Rattle.words.specs.Form.{headerBytes}
+use Rattle.words.specs.declared.Message.{Message}
 use Rattle.words.specs.declared.Reading.{Reading}
 use Rattle.words.specs.declared.Reading.the-variants.{Made, Malformed}
+use Rattle.syntax.specs.declared.Line.{Line}
 use Rattle.script_lines.specs.declared.run.Ran.{Ran}
 use Rattle.script_lines.specs.declared.run.Headed.{Headed}
 
 -- what a line is answered: 14, "line not of the form below", which comes before every other number; else what the step is answered
-unfoldable pub lineAnswered : State → Option Step → Out
-lineAnswered k none = stays k 14 0 (standingIn k)
-lineAnswered k (some x) = stepOf k (requestFor x)
+unfoldable pub lineAnswered : Whole → Option Step → After
+lineAnswered h none = stays h 14 0 (standingIn h)
+lineAnswered h (some x) = stepBy h x
 
--- the same for what was read of a line, on a record that was tested before: `sound` is what the test said. Where it says the truth it is the
--- same (`LineRunLaws.answered-tested`); what it is of any other record is free, and is named here
-unfoldable pub answeredTested : Bool → State → Reading → Out
-answeredTested sound k (Made x) = cond sound (machineStep k x) (stays k 15 0 none)
-answeredTested sound k Malformed = stays k 14 0 (standingBy sound k)
+-- the step that was read of a line, with its message
+unfoldable pub stepRead : Reading → List ℕ → Option Step
+stepRead Malformed m = none
+stepRead (Made x) m = some (stepFor x m)
+
+-- a message's words: as many as it says it has
+abbrev pub messageWords : Message → List ℕ
+messageWords m = take (m .n) (m .words)
+
+-- a plan that comes to what the line is answered, whatever message of so many words was read and whatever block of that length is lent
+abbrev pub Answers : Bool → State → List ℕ → ℕ → Line → Plan → Type 0
+Answers sound k words space l p =
+    (m block : List ℕ) → length m ≡ l .message .n → length block ≡ space → Known sound (whole k words block)
+    → carried (whole k words block) m p ≡ lineAnswered (whole k words block) (stepRead (l .reading) m)
 
 -- "one line for each script line: answer, value, running task or `-`"
 abbrev pub lineFor : Answer → List ℕ
 lineFor a = lineBytes (numberOf a) (valueOf a) (runOf a)
 
--- what comes back of a step, with so many bytes written
-abbrev pub ranWith : Out → ℕ → Ran
-ranWith o written = record { state = o .state; answer = o .answer; written = written }
+-- what comes of a line: of its step, and how many bytes of the lent memory its log line took
+pub record Came : Type 0 where
+  pub after : After
+  pub written : ℕ
 
--- the record, the answer and the bytes written, by the line that reports the answer. "The log's 8 comes last: if the line that would report the
--- answer, accepted or not, its LF included, is longer than the lent memory, the answer is 8, value 0, and the step isn't made."
-unfoldable pub reported : State → Out → List ℕ → List ℕ → Ran
-reported k o log memory = cond (room memory 0 log) (ranWith o (length log)) (ranWith (stays k 8 0 (standingIn k)) 0)
+abbrev pub cameTo : After → ℕ → Came
+cameTo o written = record { after = o; written = written }
 
-unfoldable pub ranLine : State → List ℕ → List ℕ → Ran
-ranLine k line memory =
-    let o = lineAnswered k (stepOn line) in
-    reported k o (lineFor (o .answer)) memory
+-- what is handed back of it, where words and block lie in lent memory
+abbrev pub ranWith : Came → Ran
+ranWith c = record { state = c .after .whole .state; answer = c .after .answer; written = c .written }
+
+-- by the line that reports the answer. "The log's 8 comes last: if the line that would report the answer, accepted or not, its LF included, is longer
+-- than the lent memory, the answer is 8, value 0, and the step isn't made."
+unfoldable pub reported : Whole → After → List ℕ → List ℕ → Came
+reported h o log memory = cond (room memory 0 log) (cameTo o (length log)) (cameTo (stays h 8 0 (standingIn h)) 0)
+
+unfoldable pub ranLine : Whole → List ℕ → List ℕ → Came
+ranLine h line memory =
+    let o = lineAnswered h (stepOn line) in
+    reported h o (lineFor (o .answer)) memory
 
 -- "A log line is written at the front of the lent memory; bytes after it stay, and with the log's 8 all stay"
-unfoldable pub memoryLine : State → List ℕ → List ℕ → List ℕ
-memoryLine k line memory = putBytes memory 0 (lineFor ((lineAnswered k (stepOn line)) .answer))
+unfoldable pub memoryLine : Whole → List ℕ → List ℕ → List ℕ
+memoryLine h line memory = putBytes memory 0 (lineFor ((lineAnswered h (stepOn line)) .answer))
 
 -- where a script stands: its first line is awaited; steps are run; its first line was bad, and nothing more is written
 abbrev pub awaiting : ℕ

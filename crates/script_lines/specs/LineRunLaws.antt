@@ -8,157 +8,195 @@ use Prim.Native.Nat.{ℕ, _+_, _<_}
 use native.Mathlib.Omega.{arith}
 use lib.Dec.{leb}
 use lib.ListN.{length, drop}
-use borrow.Author.Tests.{leb-false}
-use Rattle.lists.specs.TestLaws.{which, by-test, and-r}
+use borrow.Author.Tests.{leb-false, eqb-true}
+use Rattle.lists.specs.TestLaws.{which, by-test, and-l, and-r}
+use Rattle.lists.specs.TableLaws.{take-pad}
 use Rattle.text.specs.Place.{room, putAnswer, putBytes}
 use Rattle.text.specs.declared.place.Put.the-variants.{Next, Full}
+use Rattle.rules.specs.Sizes.{heldWords}
 use Rattle.rules.specs.Step.{Step}
 use Rattle.rules.specs.Log.{logLine, memoryAfter}
 use Rattle.walks.specs.Walk.{taskAt}
-use Rattle.rules.specs.Answer.{standing, malformed}
+use Rattle.rules.specs.Answer.{standing, malformed, isFormed}
 use Rattle.rules.specs.Sound.{soundb}
 use Rattle.record.specs.Record.{view}
-use Rattle.record.specs.SoundRecord.{soundOf}
-use Rattle.record.specs.GoodRecord.{Typed}
-use Rattle.record.specs.SoundPackLaws.{sound-pack}
-use Rattle.record.specs.StepRecord.{numberOf, answerFor, outFor, stays, stepOf}
-use Rattle.record.specs.DemandRecordLaws.{step-verdict, step-typed, refused-stays}
-use Rattle.machine.specs.Machine.{machineStep}
-use Rattle.machine.specs.MachineLaws.{sound-step}
-use Rattle.record.specs.declared.Request.{Request}
-use Rattle.record.specs.DemandRecord.{requestFor, readOut, standingIn, inMemory, callRecord}
+use Rattle.record.specs.Whole.{Whole, whole}
+use Rattle.record.specs.SoundRecord.{wordsTidyb, soundOf}
+use Rattle.record.specs.GoodRecord.{Typed, WordsTyped}
+use Rattle.record.specs.StepRecord.{numberOf, answerFor, After, stays, standingBy, standingIn, stepBy}
+use Rattle.record.specs.DemandRecordLaws.{step-back, step-verdict, step-typed, refused-stays}
+use Rattle.record.specs.DemandRecord.{readOut, inMemory, callRecord}
 use Rattle.record.specs.declared.State.{State}
-use Rattle.record.specs.declared.Out.{Out}
+use Rattle.record.specs.declared.Answer.{Answer}
+use Rattle.record.specs.declared.Plan.{Plan}
+use Rattle.record.specs.declared.Request.{Request}
+use Rattle.moves.specs.declared.Move.the-variants.{Nothing}
+use Rattle.machine.specs.Planned.{carried}
+use Rattle.kernel.specs.Planning.{Known, Gives}
 use Rattle.words.specs.Form.{sameBytes, stepOn}
 use Rattle.log_lines.specs.LogLine.{lineBytes, logBytes, badBytes}
 use Rattle.words.specs.Form.{headerBytes}
-use Rattle.words.specs.Reading.{readingFor}
-use Rattle.script_lines.specs.LineRun.{awaiting, running, over, lineAnswered, answeredTested, lineFor, ranWith, reported, ranLine, memoryLine, headLog, headStage, headed}
-use Rattle.script_lines.specs.declared.run.Ran.{Ran}
+use Rattle.words.specs.Reading.{readingFor, messageOn}
+use Rattle.words.specs.declared.Reading.the-variants.{Made, Malformed}
+use Rattle.syntax.specs.Line.{lineRead}
+use Rattle.syntax.specs.declared.Line.{Line}
+use Rattle.script_lines.specs.LineRun.{awaiting, running, over, lineAnswered, stepRead, messageWords, Answers, lineFor, Came, cameTo, reported, ranLine, memoryLine, headLog, headStage, headed}
 
 -- the line that reports an answer is the rules' log line of it
-pub line-ruled : (o : Out) → lineFor (o .answer) ≡ logLine (readOut o)
+pub line-ruled : (o : After) → lineFor (o .answer) ≡ logLine (readOut o)
 unfolding lineBytes logLine readOut
 line-ruled o = refl
 
-abbrev outOf : Ran → Out
-outOf r = record { state = r .state; answer = r .answer }
-
-either : (b : Bool) (o p : Out) (n m : ℕ) → outOf (cond b (ranWith o n) (ranWith p m)) ≡ cond b o p
+either : (b : Bool) (o p : After) (n m : ℕ) → (cond b (cameTo o n) (cameTo p m)) .after ≡ cond b o p
 either true o p n m = refl
 either false o p n m = refl
 
--- a step on a sound record is what the machine makes of it, and any other record is answered 15
-unsound-step : (k : State) (x : Request) → soundOf k ≡ false → stays k 15 0 none ≡ stepOf k x
-unfolding stepOf
-unsound-step k x e = rw e
+-- what was read of a line is the step that it is, and its message has the words of that step
+pub read-back : (o : Option Step) → stepRead ((lineRead o) .reading) (messageOn o) ≡ o
+unfolding stepRead readingFor messageOn
+read-back none = refl
+read-back (some x) = ap some (step-back x)
 
-step-tested : (k : State) → Typed k → (x : Request) → cond (soundOf k) (machineStep k x) (stays k 15 0 none) ≡ stepOf k x
-step-tested k T x = by-test (λ o. o ≡ stepOf k x) (soundOf k) (λ e. sound-step k T e x) (λ e. unsound-step k x e)
+pub message-back : (o : Option Step) → messageWords ((lineRead o) .message) ≡ messageOn o
+message-back o = take-pad heldWords 0 (length (messageOn o)) (messageOn o) refl
 
--- what was read of a line, answered with what the test says of the record
-pub answered-tested : (k : State) → Typed k → (o : Option Step) → answeredTested (soundOf k) k (readingFor o) ≡ lineAnswered k o
-unfolding answeredTested readingFor lineAnswered standingIn
-answered-tested k T none = refl
-answered-tested k T (some x) = step-tested k T (requestFor x)
+-- a plan for what was read, by its case: 14, or what the kernel plans
+module _ (sound : Bool) (k : State) (words : List ℕ) (space : ℕ) (l : Line) where
+  pub malformed-answers : l .reading ≡ Malformed → (a : Answer) → a ≡ answerFor 14 0 (standingBy sound k) → Answers sound k words space l (record { state = k; answer = a; moves = Nothing })
+  unfolding carried lineAnswered stepRead stays standingIn
+  malformed-answers bad a e m block s n K = rw bad (λ i. record { whole = whole k words block; answer = (e ∙ ap (λ b. answerFor 14 0 (standingBy b k)) (K .truth)) i })
+
+  pub made-answers : (x : Request) → l .reading ≡ Made x → (p : Plan) → Gives sound k words space x (l .message .n) p → Answers sound k words space l p
+  unfolding lineAnswered stepRead
+  made-answers x is p g m block s n K = rw is (g m block s n K)
+
+-- so a plan for what was read of a line comes to what the line is answered, where the test said the truth
+pub plan-answers : (sound : Bool) (k : State) (words : List ℕ) (block : List ℕ) (l : Line) (p : Plan) (o : Option Step) → Answers sound k words (length block) l p → l ≡ lineRead o
+    → Known sound (whole k words block) → carried (whole k words block) (messageOn o) p ≡ lineAnswered (whole k words block) o
+plan-answers sound k words block l p o g is K =
+    g (messageOn o) block (ap (λ (z : Line). z .message .n) (sym is)) refl K ∙ ap (lineAnswered (whole k words block)) (ap (λ (z : Line). stepRead (z .reading) (messageOn o)) is ∙ read-back o)
+
+-- a step on an unsound record leaves it, and a sound one has as many words as there are places for
+unsound-stays : (h : Whole) (x : Step) → soundOf h ≡ false → (stepBy h x) .whole ≡ h
+unfolding stepBy stays
+unsound-stays h x e = by-test (λ (A : After). A .whole ≡ h) (isFormed x) (λ f. rw e refl) (λ f. refl)
+
+sound-words : (h : Whole) → soundOf h ≡ true → WordsTyped (h .words)
+unfolding soundOf wordsTidyb
+sound-words h e = eqb-true _ _ (and-l _ _ (and-l _ _ (and-r _ _ e)))
 
 -- a line leaves a sound record sound, and one that isn't as it was; and the record handed on has the lengths and the numbers of its type
-pub answered-verdict : (k : State) (o : Option Step) → soundOf ((lineAnswered k o) .state) ≡ soundOf k
+pub answered-verdict : (h : Whole) (o : Option Step) → Typed (h .state) → soundOf ((lineAnswered h o) .whole) ≡ soundOf h
 unfolding lineAnswered stays
-answered-verdict k none = refl
-answered-verdict k (some x) = step-verdict k (requestFor x)
+answered-verdict h none T = refl
+answered-verdict h (some x) T = elim (which (soundOf h)) [
+  | inl e ↦ step-verdict h x T (sound-words h e)
+  | inr e ↦ ap soundOf (unsound-stays h x e)
+]
 
-pub answered-typed : (k : State) (o : Option Step) → Typed k → Typed ((lineAnswered k o) .state)
+pub answered-typed : (h : Whole) (o : Option Step) → Typed (h .state) → Typed ((lineAnswered h o) .whole .state)
 unfolding lineAnswered stays
-answered-typed k none T = T
-answered-typed k (some x) T = step-typed k (requestFor x) T
+answered-typed h none T = T
+answered-typed h (some x) T = elim (which (soundOf h)) [
+  | inl e ↦ (step-typed h x T (sound-words h e)) .0
+  | inr e ↦ rw (unsound-stays h x e) T
+]
+
+-- what the test said of the record it says of the one that a line leaves
+pub known-on : (sound : Bool) (h : Whole) (o : Option Step) → Known sound h → Known sound ((lineAnswered h o) .whole)
+known-on sound h o K = record { typed = answered-typed h o (K .typed); truth = K .truth ∙ sym (answered-verdict h o (K .typed)) }
 
 from-front : (l : List ℕ) → 0 + length l ≡ length l
 from-front l = omega arith
 
-module _ (k : State) (line memory : List ℕ) where
+module _ (h : Whole) (line memory : List ℕ) where
   -- a line that is a step: the call of demand 3's list, with a log line in memory of that length
-  pub step-call : (x : Step) → stepOn line ≡ some x → outOf (ranLine k line memory) ≡ callRecord k (record { made = x; room = some (length memory) })
+  pub step-call : (x : Step) → stepOn line ≡ some x → (ranLine h line memory) .after ≡ callRecord h (record { made = x; room = some (length memory) })
   unfolding ranLine lineAnswered reported callRecord inMemory
-  step-call x is = rw is (either (room memory 0 (lineFor ((stepOf k (requestFor x)) .answer))) (stepOf k (requestFor x)) (stays k 8 0 (standingIn k)) _ _
-      ∙ ap (λ l. cond (room memory 0 l) (stepOf k (requestFor x)) (stays k 8 0 (standingIn k))) (line-ruled (stepOf k (requestFor x)))
-      ∙ ap (λ n. cond (leb n (length memory)) (stepOf k (requestFor x)) (stays k 8 0 (standingIn k))) (from-front (logLine (readOut (stepOf k (requestFor x))))))
+  step-call x is = rw (is, step-back x) (either (room memory 0 (lineFor ((stepBy h x) .answer))) (stepBy h x) (stays h 8 0 (standingIn h)) _ _
+      ∙ ap (λ l. cond (room memory 0 l) (stepBy h x) (stays h 8 0 (standingIn h))) (line-ruled (stepBy h x))
+      ∙ ap (λ n. cond (leb n (length memory)) (stepBy h x) (stays h 8 0 (standingIn h))) (from-front (logLine (readOut (stepBy h x)))))
 
   -- the lent memory is as the rules leave it
-  pub memory-ruled : memoryLine k line memory ≡ memoryAfter (readOut (lineAnswered k (stepOn line))) memory
+  pub memory-ruled : memoryLine h line memory ≡ memoryAfter (readOut (lineAnswered h (stepOn line))) memory
   unfolding memoryLine memoryAfter putBytes
-  memory-ruled = ap (λ l. cond (leb (0 + length l) (length memory)) (l ++ drop (0 + length l) memory) memory) (line-ruled (lineAnswered k (stepOn line)))
-      ∙ ap (λ n. cond (leb n (length memory)) (logLine (readOut (lineAnswered k (stepOn line))) ++ drop n memory) memory) (from-front (logLine (readOut (lineAnswered k (stepOn line)))))
+  memory-ruled = ap (λ l. cond (leb (0 + length l) (length memory)) (l ++ drop (0 + length l) memory) memory) (line-ruled (lineAnswered h (stepOn line)))
+      ∙ ap (λ n. cond (leb n (length memory)) (logLine (readOut (lineAnswered h (stepOn line))) ++ drop n memory) memory) (from-front (logLine (readOut (lineAnswered h (stepOn line)))))
 
   -- a malformed line changes nothing
-  pub malformed-stays : stepOn line ≡ none → (ranLine k line memory) .state ≡ k
+  pub malformed-stays : stepOn line ≡ none → (ranLine h line memory) .after .whole ≡ h
   unfolding ranLine lineAnswered reported stays
-  malformed-stays is = rw is (ap (λ o. o .state) (either (room memory 0 (lineFor ((stays k 14 0 (standingIn k)) .answer))) (stays k 14 0 (standingIn k)) (stays k 8 0 (standingIn k)) _ _)
-      ∙ same (room memory 0 (lineFor ((stays k 14 0 (standingIn k)) .answer))))
+  malformed-stays is = rw is (ap (λ (o : After). o .whole) (either (room memory 0 (lineFor ((stays h 14 0 (standingIn h)) .answer))) (stays h 14 0 (standingIn h)) (stays h 8 0 (standingIn h)) _ _)
+      ∙ same (room memory 0 (lineFor ((stays h 14 0 (standingIn h)) .answer))))
     where
-      same : (b : Bool) → (cond b (stays k 14 0 (standingIn k)) (stays k 8 0 (standingIn k))) .state ≡ k
+      same : (b : Bool) → (cond b (stays h 14 0 (standingIn h)) (stays h 8 0 (standingIn h))) .whole ≡ h
       same true = refl
       same false = refl
 
 -- on a sound record a malformed line is answered as the rules answer it: 14, value 0, the running task as it stands
-view-runs : (k : State) → (view k) .running ≡ taskAt (k .running)
+view-runs : (h : Whole) → (view h) .running ≡ taskAt (h .state .running)
 unfolding view
-view-runs k = refl
+view-runs h = refl
 
-view-sound : (k : State) → soundOf k ≡ true → soundb (view k) ≡ true
+view-sound : (h : Whole) → soundOf h ≡ true → soundb (view h) ≡ true
 unfolding soundOf
-view-sound k e = and-r _ _ (and-r _ _ e)
+view-sound h e = and-r _ _ (and-r _ _ (and-r _ _ e))
 
-stands-ruled : (k : State) → soundOf k ≡ true → standingIn k ≡ standing (view k)
+stands-ruled : (h : Whole) → soundOf h ≡ true → standingIn h ≡ standing (view h)
 unfolding standingIn standing
-stands-ruled k e = rw (e, view-sound k e) (sym (view-runs k))
+stands-ruled h e = rw (e, view-sound h e) (sym (view-runs h))
 
-pub malformed-ruled : (k : State) → Typed k → soundOf k ≡ true → lineAnswered k none ≡ outFor (malformed (view k))
-unfolding lineAnswered stays outFor answerFor malformed
-malformed-ruled k T e = ap (stays k 14 0) (stands-ruled k e) ∙ ap (λ z. stays z 14 0 (standing (view k))) (sym (sound-pack k e T))
+pub malformed-ruled : (h : Whole) → soundOf h ≡ true
+    → (let a = malformed (view h) in (lineAnswered h none ≡ record { whole = h; answer = answerFor (a .number) (a .value) (a .run) }) × (a .state ≡ view h))
+unfolding lineAnswered stays malformed
+malformed-ruled h e = (ap (stays h 14 0) (stands-ruled h e), refl)
 
 -- the lent memory behind a line that was run: the log line of its answer stands at the front and every byte behind it as it was, or, with the
 -- log's 8 for want of room for the line that would report the answer, every byte as it was
-pub data Logged (k : State) (line memory : List ℕ) (r : Ran) (after : List ℕ) : Type 0 where
-  at-the-front : r .written ≡ length (lineFor (r .answer)) → after ≡ lineFor (r .answer) ++ drop (r .written) memory → Logged k line memory r after
-  without-room : length memory < length (lineFor ((lineAnswered k (stepOn line)) .answer)) → r .answer ≡ (stays k 8 0 (standingIn k)) .answer → after ≡ memory
-      → Logged k line memory r after
+pub data Logged (h : Whole) (line memory : List ℕ) (r : Came) (left : List ℕ) : Type 0 where
+  at-the-front : r .written ≡ length (lineFor (r .after .answer)) → left ≡ lineFor (r .after .answer) ++ drop (r .written) memory → Logged h line memory r left
+  without-room : length memory < length (lineFor ((lineAnswered h (stepOn line)) .answer)) → r .after .answer ≡ (stays h 8 0 (standingIn h)) .answer → left ≡ memory
+      → Logged h line memory r left
 
-refused-answered : (k : State) (o : Option Step) → Typed k → 1 < numberOf ((lineAnswered k o) .answer) → (lineAnswered k o) .state ≡ k
+refused-answered : (h : Whole) (o : Option Step) → Typed (h .state) → 1 < numberOf ((lineAnswered h o) .answer) → (lineAnswered h o) .whole ≡ h
 unfolding lineAnswered stays
-refused-answered k none T h = refl
-refused-answered k (some x) T h = refused-stays k (requestFor x) T h
+refused-answered h none T k = refl
+refused-answered h (some x) T k = elim (which (soundOf h)) [
+  | inl e ↦ refused-stays h x T (sound-words h e) k
+  | inr e ↦ unsound-stays h x e
+]
 
--- demand 1 as a script meets it: a number other than 0 and 1 leaves the record as it was, and of the lent memory all but the answer's log line
-pub refused-line : (k : State) (line memory : List ℕ) → Typed k → 1 < numberOf ((ranLine k line memory) .answer)
-    → ((ranLine k line memory) .state ≡ k) × Logged k line memory (ranLine k line memory) (memoryLine k line memory)
+-- demand 1 as a script meets it: a number other than 0 and 1 leaves the record, the words and the block as they were, and of the lent memory all but
+-- the answer's log line
+pub refused-line : (h : Whole) (line memory : List ℕ) → Typed (h .state) → 1 < numberOf ((ranLine h line memory) .after .answer)
+    → ((ranLine h line memory) .after .whole ≡ h) × Logged h line memory (ranLine h line memory) (memoryLine h line memory)
 unfolding ranLine memoryLine reported putBytes stays
-refused-line k line memory T = go (which (room memory 0 log))
+refused-line h line memory T = go (which (room memory 0 log))
   where
-    o : Out
-    o = lineAnswered k (stepOn line)
+    o : After
+    o = lineAnswered h (stepOn line)
 
     log : List ℕ
     log = lineFor (o .answer)
 
     short : room memory 0 log ≡ false → length memory < length log
-    short e = let h : length memory < 0 + length log = leb-false _ _ e in omega arith
+    short e = let k : length memory < 0 + length log = leb-false _ _ e in omega arith
 
-    go : (room memory 0 log ≡ true) ⊎ (room memory 0 log ≡ false) → 1 < numberOf ((reported k o log memory) .answer)
-        → ((reported k o log memory) .state ≡ k) × Logged k line memory (reported k o log memory) (putBytes memory 0 log)
-    go (inl e) = rw e (λ h. (refused-answered k (stepOn line) T h, at-the-front refl (ap (λ n. log ++ drop n memory) (from-front log))))
-    go (inr e) = rw e (λ h. (refl, without-room (short e) refl refl))
+    go : (room memory 0 log ≡ true) ⊎ (room memory 0 log ≡ false) → 1 < numberOf ((reported h o log memory) .after .answer)
+        → ((reported h o log memory) .after .whole ≡ h) × Logged h line memory (reported h o log memory) (putBytes memory 0 log)
+    go (inl e) = rw e (λ k. (refused-answered h (stepOn line) T k, at-the-front refl (ap (λ n. log ++ drop n memory) (from-front log))))
+    go (inr e) = rw e (λ k. (refl, without-room (short e) refl refl))
 
 -- by what became of the log line: it was written, or it had no room
-module _ (k : State) (o : Out) (log memory : List ℕ) where
-  pub reported-next : (n : ℕ) → putAnswer memory 0 log ≡ Next n → ranWith o n ≡ reported k o log memory
+module _ (h : Whole) (o : After) (log memory : List ℕ) where
+  pub reported-next : (n : ℕ) → putAnswer memory 0 log ≡ Next n → cameTo o n ≡ reported h o log memory
   unfolding putAnswer reported
   reported-next n e = elim (which (room memory 0 log)) [
-    | inl r ↦ let z : Next (0 + length log) ≡ Next n = rw r at e in rw r (ap (ranWith o) (let y : 0 + length log ≡ n = cc in omega (arith, y)))
+    | inl r ↦ let z : Next (0 + length log) ≡ Next n = rw r at e in rw r (ap (cameTo o) (let y : 0 + length log ≡ n = cc in omega (arith, y)))
     | inr r ↦ let z : Full ≡ Next n = rw r at e in absurd (let y : _≡_ {A = ℕ} 0 1 = cc in omega arith)
   ]
 
-  pub reported-full : putAnswer memory 0 log ≡ Full → ranWith (stays k 8 0 (standingIn k)) 0 ≡ reported k o log memory
+  pub reported-full : putAnswer memory 0 log ≡ Full → cameTo (stays h 8 0 (standingIn h)) 0 ≡ reported h o log memory
   unfolding putAnswer reported
   reported-full e = elim (which (room memory 0 log)) [
     | inl r ↦ let z : Next (0 + length log) ≡ Full = rw r at e in absurd (let y : _≡_ {A = ℕ} 0 1 = cc in omega arith)
@@ -166,12 +204,12 @@ module _ (k : State) (o : Out) (log memory : List ℕ) where
   ]
 
 -- a line by what it was answered
-module _ (k : State) (line memory : List ℕ) (o : Out) (is : o ≡ lineAnswered k (stepOn line)) where
-  pub answer-reported : reported k o (lineFor (o .answer)) memory ≡ ranLine k line memory
+module _ (h : Whole) (line memory : List ℕ) (o : After) (is : o ≡ lineAnswered h (stepOn line)) where
+  pub answer-reported : reported h o (lineFor (o .answer)) memory ≡ ranLine h line memory
   unfolding ranLine
-  answer-reported = ap (λ p. reported k p (lineFor (p .answer)) memory) is
+  answer-reported = ap (λ p. reported h p (lineFor (p .answer)) memory) is
 
-  pub answer-memory : putBytes memory 0 (lineFor (o .answer)) ≡ memoryLine k line memory
+  pub answer-memory : putBytes memory 0 (lineFor (o .answer)) ≡ memoryLine h line memory
   unfolding memoryLine
   answer-memory = ap (λ p. putBytes memory 0 (lineFor (p .answer))) is
 

@@ -1,14 +1,18 @@
-// One line of a script run on a record, with lent memory for its log line.
+// One line of a script run on a record with its words and block, with lent memory for its log line.
 ghost use mathlib.Core.Path.{_≡_};
 ghost use Rattle.text.specs.Place.{putAnswer, putBytes};
-ghost use Rattle.record.specs.StepRecord.{stays};
-ghost use Rattle.record.specs.DemandRecord.{standingBy};
-ghost use Rattle.script_lines.specs.LineRun.{answeredTested, lineFor, ranWith, ranLine, memoryLine, headed, memoryHead};
+ghost use Rattle.moves.specs.Moves.{wordsAfter, blockAfter};
+ghost use Rattle.record.specs.Whole.{whole};
+ghost use Rattle.script_lines.specs.LineRun.{messageWords, Answers, lineFor, ranWith, ranLine, memoryLine, headed, memoryHead};
 use kernel::refused;
+use moves::Move;
 use record::Answer;
-use record::Out;
+use record::EIGHT;
+use record::Plan;
 use record::State;
+use syntax::Line;
 use text::place::Put;
+use words::Message;
 use words::Reading;
 
 // Where a script stands: its first line is awaited; steps are run; its first line was bad and nothing more is written.
@@ -31,17 +35,32 @@ pub struct Headed {
     pub written: usize,
 }
 
-// What was read of a line, answered on a record that was tested before, `sound` being what the test said: 14, 15, or its step made.
-pub fn answer(s: State, sound: bool, reading: Reading) -> Out
-    ensures { λ r. ⌜ r ≡ answeredTested sound s reading ⌝ }
+// What was read of a line, answered on a record that was tested before, `sound` being what the test said: 14, 15, or its step, before any word is
+// moved. The lent block has `space` words.
+pub fn answer(s: State, sound: bool, line: Line, space: usize, words: &[u32]) -> Plan
+    ensures { λ r. ⌜ Answers sound s (now (words .entry)) space line r ⌝ }
 {
+    let reading = line.reading;
+    let count = line.message.n;
     let Reading::Made(request) = reading else {
-        return refused::malformed(s, sound);
+        return kernel::stay(s, refused::malformed(s, sound));
     };
-    if !sound {
-        return refused::unsound(s);
+    kernel::plan(s, sound, request, count, space, words)
+}
+
+// What a step moves, with the message that was read beside it. This comes after its log line: where that has no room, no word is moved.
+pub fn make(m: Move, message: Message, words: &mut [u32], block: &mut [u32])
+    ensures held { λ r. ⌜ now (words .exit) ≡ wordsAfter m (now (words .entry)) (messageWords message) (now (block .entry)) ⌝ }
+    ensures memory { λ r. ⌜ now (block .exit) ≡ blockAfter m (now (words .entry)) (messageWords message) (now (block .entry)) ⌝ }
+{
+    let all = message.words;
+    let n = message.n;
+    if EIGHT < n {
+        // never so many are read
+        moves::make(m, words, &all, block);
+        return;
     }
-    steps::perform(s, request)
+    moves::make(m, words, &all[..n], block);
 }
 
 // An answer's log line at the front of the lent memory.
@@ -61,33 +80,29 @@ pub fn log_answer(a: Answer, log: &mut [u8]) -> Put
     log_lines::write_line(log, number, value, run)
 }
 
-// The log's 8: its line has no room, and the step isn't made.
-fn without_room(s: State, sound: bool) -> Ran
-    ensures { λ r. ⌜ r ≡ ranWith (stays s 8 0 (standingBy sound s)) 0 ⌝ }
+// One line: its step made, and reported by a log line at the front of the lent memory. The log's 8: where that line has no room the step isn't made,
+// and nothing lent changes.
+pub fn run_line(s: State, line: &[u8], words: &mut [u32], block: &mut [u32], log: &mut [u8]) -> Ran
+    ensures answer { λ r. ⌜ r ≡ ranWith (ranLine (whole s (now (words .entry)) (now (block .entry))) (now (line .entry)) (now (log .entry))) ⌝ }
+    ensures held { λ r. ⌜ now (words .exit) ≡ ranLine (whole s (now (words .entry)) (now (block .entry))) (now (line .entry)) (now (log .entry)) .after .whole .words ⌝ }
+    ensures lent { λ r. ⌜ now (block .exit) ≡ ranLine (whole s (now (words .entry)) (now (block .entry))) (now (line .entry)) (now (log .entry)) .after .whole .block ⌝ }
+    ensures memory { λ r. ⌜ now (log .exit) ≡ memoryLine (whole s (now (words .entry)) (now (block .entry))) (now (line .entry)) (now (log .entry)) ⌝ }
 {
-    let o = refused::without_room(s, sound);
-    let a = o.answer;
-    let same = o.state;
-    Ran {
-        state: same,
-        answer: a,
-        written: 0,
-    }
-}
-
-// One line: its step made, and reported by a log line at the front of the lent memory.
-pub fn run_line(s: State, line: &[u8], log: &mut [u8]) -> Ran
-    ensures answer { λ r. ⌜ r ≡ ranLine s (now (line .entry)) (now (log .entry)) ⌝ }
-    ensures memory { λ r. ⌜ now (log .exit) ≡ memoryLine s (now (line .entry)) (now (log .entry)) ⌝ }
-{
-    let sound = sound::is_sound(s);
-    let reading = syntax::read_line(line);
-    let o = answer(s, sound, reading);
-    let a = o.answer;
-    let next = o.state;
+    let sound = sound::is_sound(s, words, block.len());
+    let read = syntax::read_line(line);
+    let p = answer(s, sound, read, block.len(), words);
+    let a = p.answer;
+    let next = p.state;
+    let m = p.moves;
     let Put::Next(n) = log_answer(a, log) else {
-        return without_room(s, sound);
+        let none = refused::without_room(s, sound);
+        return Ran {
+            state: s,
+            answer: none,
+            written: 0,
+        };
     };
+    make(m, read.message, words, block);
     Ran {
         state: next,
         answer: a,

@@ -5,13 +5,13 @@ use record::FLUSHED;
 use record::GRANTED;
 use record::NONE;
 use record::ON_SEMAPHORE;
-use record::Out;
+use record::Plan;
 use record::State;
 use record::reads;
 use replies::answers;
 use replies::refusals;
 
-pub fn pend(mut s: State, k: u32, time: u32) -> Out
+pub fn pend(mut s: State, k: u32, time: u32) -> Plan
     ensures { λ r. ⌜ r ≡ pendStep s k time ⌝ }
 {
     let no = refusals::of_timed(s.started, s.running, s.semaphores.n, k, time);
@@ -41,7 +41,7 @@ pub fn pend(mut s: State, k: u32, time: u32) -> Out
 }
 
 // The best waiter gets the credit; where nobody waits, the count rises up to the maximum.
-pub fn post(mut s: State, k: u32) -> Out
+pub fn post(mut s: State, k: u32) -> Plan
     ensures { λ r. ⌜ r ≡ postStep s k ⌝ }
 {
     if s.started == 0 {
@@ -74,7 +74,7 @@ pub fn post(mut s: State, k: u32) -> Out
     answers::answer(s, 0, 0)
 }
 
-pub fn flush(mut s: State, k: u32) -> Out
+pub fn flush(mut s: State, k: u32) -> Plan
     ensures { λ r. ⌜ r ≡ flushStep s k ⌝ }
 {
     if s.started == 0 {

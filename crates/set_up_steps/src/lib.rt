@@ -1,16 +1,19 @@
 // The steps of set-up, creation and start: the refusals in the order of the table, then what the step does.
+mod room;
+
 ghost use mathlib.Core.Path.{_≡_};
-ghost use Rattle.machine.specs.Machine.{taskStep, mutexStep, semStep, startStep};
+ghost use Rattle.machine.specs.Machine.{taskStep, mutexStep, semStep, queueStep, ownedQueueStep, startStep};
 use record::KINDS;
 use record::LEVELS;
 use record::MAX_MUTEXES;
 use record::MAX_SEMAPHORES;
 use record::MAX_TASKS;
-use record::Out;
+use record::NONE;
+use record::Plan;
 use record::State;
 use replies::answers;
 
-pub fn task(mut s: State, priority: u32) -> Out
+pub fn task(mut s: State, priority: u32) -> Plan
     ensures { λ r. ⌜ r ≡ taskStep s priority ⌝ }
 {
     if s.started != 0 {
@@ -31,7 +34,7 @@ pub fn task(mut s: State, priority: u32) -> Out
     answers::answer(s, 0, id as u32)
 }
 
-pub fn mutex(mut s: State, kind: u32) -> Out
+pub fn mutex(mut s: State, kind: u32) -> Plan
     ensures { λ r. ⌜ r ≡ mutexStep s kind ⌝ }
 {
     if s.started != 0 {
@@ -48,7 +51,7 @@ pub fn mutex(mut s: State, kind: u32) -> Out
     answers::answer(s, 0, id as u32)
 }
 
-pub fn sem(mut s: State, count: u32, maximum: u32) -> Out
+pub fn sem(mut s: State, count: u32, maximum: u32) -> Plan
     ensures { λ r. ⌜ r ≡ semStep s count maximum ⌝ }
 {
     if s.started != 0 {
@@ -68,7 +71,45 @@ pub fn sem(mut s: State, count: u32, maximum: u32) -> Out
     answers::answer(s, 0, id as u32)
 }
 
-pub fn start(mut s: State) -> Out
+// A queue that anybody may receive from; `space` is the length of the lent block, in words.
+pub fn queue(mut s: State, width: u32, depth: u32, space: usize) -> Plan
+    ensures { λ r. ⌜ r ≡ queueStep s width depth space ⌝ }
+{
+    if s.started != 0 {
+        return answers::answer(s, 4, 0);
+    }
+    let queues = s.queues;
+    let no = room::refusal(queues, width, depth, space);
+    if no != 0 {
+        return answers::answer(s, no, 0);
+    }
+    let id = queues.n;
+    s.queues = objects::add_queue(queues, width as u8, depth as u8, NONE);
+    answers::answer(s, 0, id as u32)
+}
+
+// A queue that only its owner receives from.
+pub fn owned_queue(mut s: State, width: u32, depth: u32, owner: u32, space: usize) -> Plan
+    ensures { λ r. ⌜ r ≡ ownedQueueStep s width depth owner space ⌝ }
+{
+    if s.started != 0 {
+        return answers::answer(s, 4, 0);
+    }
+    if s.tasks.n as u32 <= owner {
+        return answers::answer(s, 6, 0);
+    }
+    let receiver = owner as u8;
+    let queues = s.queues;
+    let no = room::refusal(queues, width, depth, space);
+    if no != 0 {
+        return answers::answer(s, no, 0);
+    }
+    let id = queues.n;
+    s.queues = objects::add_queue(queues, width as u8, depth as u8, receiver);
+    answers::answer(s, 0, id as u32)
+}
+
+pub fn start(mut s: State) -> Plan
     ensures { λ r. ⌜ r ≡ startStep s ⌝ }
 {
     if s.started != 0 {

@@ -4,10 +4,12 @@ mod tables;
 ghost use mathlib.Core.Path.{_≡_};
 ghost use Prim.Native.Nat.{_<_};
 ghost use Rattle.machine.specs.Machine.{resettled, orderOf, restOf, displaced, turnOf};
+ghost use Rattle.record.specs.declared.Queues.{Queues};
 use machine::Order;
 use machine::Turn;
 use record::Mutexes;
 use record::NONE;
+use record::QUEUES;
 use record::TASKS;
 use record::Tasks;
 use task_lists::TaskList;
@@ -28,12 +30,18 @@ fn resettle(q: TaskList, old: [u8; TASKS], new: [u8; TASKS], woken: [u8; TASKS],
     task_lists::insert_flagged(q, new, woken, n)
 }
 
-// Levels as defined, and the ready order that follows them.
-pub fn settle(t: Tasks, m: Mutexes, ready: TaskList, woken: [u8; TASKS]) -> Order
-    ensures { λ r. ⌜ r ≡ orderOf t m ready woken ⌝ }
+// Levels as defined, and the ready order that follows them; of the queues only the owners count.
+pub fn settle(
+    t: Tasks,
+    m: Mutexes,
+    queues: [u8; QUEUES],
+    ready: TaskList,
+    woken: [u8; TASKS],
+) -> Order
+    ensures { λ r. ⌜ ((x : Queues) → x .owner ≡ queues → r ≡ orderOf t m x ready woken) ⌝ }
 {
     let old = t.level;
-    let new = leads::new_levels(t, m);
+    let new = leads::new_levels(t, m, queues);
     let order = resettle(ready, old, new, woken, t.n);
     Order {
         level: new,

@@ -1,17 +1,25 @@
 // The test of a record, phrase by phrase.
 ghost use mathlib.Core.Path.{_≡_};
-ghost use Rattle.checks.specs.Checks.{sizesIn, othersUnused, tasksIn, objectsIn, listsIn, tablesIn, placesIn, waitsIn, levelsIn};
+ghost use mathlib.Core.List.{List};
+ghost use Prim.Native.Nat.{ℕ};
+ghost use lib.ListN.{length};
+ghost use Rattle.checks.specs.Checks.{sizesIn, othersUnused, tasksIn, objectsIn, queuesIn, listsIn, tablesIn, placesIn, waitsIn, levelsIn};
+ghost use Rattle.record.specs.Whole.{whole};
 ghost use Rattle.record.specs.SoundRecord.{soundOf};
 ghost use Rattle.record.specs.GoodRecord.{Typed};
 use record::MAX_MUTEXES;
+use record::MAX_QUEUES;
 use record::MAX_SEMAPHORES;
 use record::Mutexes;
 use record::NONE;
+use record::Queues;
 use record::Semaphores;
 use record::State;
 use record::TASK_PLACES;
 use record::TASKS;
 use record::Tasks;
+use sound_queues::held;
+use sound_queues::waiters;
 use task_lists::TaskList;
 
 // No more of each than there are places, and the running task is one of them.
@@ -26,9 +34,10 @@ fn sizes_in(s: State) -> bool
             flags::both(s.started <= 1, runs),
         ),
     );
+    let queues = flags::both(s.queues.n <= MAX_QUEUES, lists);
     let objects = flags::both(
         s.mutexes.n <= MAX_MUTEXES,
-        flags::both(s.semaphores.n <= MAX_SEMAPHORES, lists),
+        flags::both(s.semaphores.n <= MAX_SEMAPHORES, queues),
     );
     flags::both(s.tasks.n <= TASK_PLACES, objects)
 }
@@ -96,6 +105,16 @@ fn objects_in(m: Mutexes, c: Semaphores, tasks: u8) -> bool
     sound_objects::semaphores(&count, &maximum, c.n)
 }
 
+// Widths, depths, owners and counts, and "15 for a queue not so placed in the block".
+fn queues_in(x: Queues, tasks: u8, space: usize) -> bool
+    ensures { λ r. ⌜ r ≡ queuesIn x tasks space ⌝ }
+{
+    if !sound_queues::queues(x, tasks) {
+        return false;
+    }
+    sound_queues::placed(x, space)
+}
+
 // Both lists hold ids of tasks.
 fn lists_in(ready: TaskList, waiting: TaskList, tasks: u8) -> bool
     ensures { λ r. ⌜ r ≡ listsIn ready waiting tasks ⌝ }
@@ -125,41 +144,49 @@ fn waits_in<'a>(
     object: &'a [u8; TASKS],
     m: Mutexes,
     c: Semaphores,
+    x: Queues,
+    words: &'a [u32],
     n: u8,
 ) -> bool
-    ensures { λ r. ⌜ r ≡ waitsIn (now (wait .entry)) (now (object .entry)) m c n ⌝ }
+    ensures { λ r. ⌜ r ≡ waitsIn (now (wait .entry)) (now (object .entry)) m c x (now (words .entry)) n ⌝ }
 {
     let owner = m.owner;
-    let next = leads::leads_of(wait, object, owner);
+    let queues = x.owner;
+    let next = leads::leads_of(wait, object, owner, queues);
     let empty = sound_objects::at_objects(object, sound_objects::empties(c));
     if !sound_objects::blocked(wait, object, &next, &empty, c.n) {
         return false;
     }
-    sound_places::owners_end(&next, &owner, n)
+    if !waiters::fit(wait, object, x, words) {
+        return false;
+    }
+    sound_places::owners_end(&next, &owner, &queues, n)
 }
 
-// "stored levels as defined": own priorities, where nobody waits for a mutex, since nothing is lent then.
+// "stored levels as defined": own priorities, where nobody waits for a mutex or to send, since nothing is lent then.
 fn levels_in<'a>(
     own: [u8; TASKS],
     level: &'a [u8; TASKS],
     wait: &'a [u8; TASKS],
     object: &'a [u8; TASKS],
     m: Mutexes,
+    x: Queues,
 ) -> bool
-    ensures { λ r. ⌜ r ≡ levelsIn own (now (level .entry)) (now (wait .entry)) (now (object .entry)) m ⌝ }
+    ensures { λ r. ⌜ r ≡ levelsIn own (now (level .entry)) (now (wait .entry)) (now (object .entry)) m x ⌝ }
 {
     if leads::none_waits(wait) {
         return sound_places::same(level, &own);
     }
     let heirs = leads::heirs_of(m);
-    let to = leads::leads_of(wait, object, heirs);
+    let queues = x.owner;
+    let to = leads::leads_of(wait, object, heirs, queues);
     let lent = walks::lent_levels(own, &to, level);
     sound_places::same(level, &lent)
 }
 
 // The tables and lists, each by itself. The sizes come first: they bound the walks along chains of waits.
-fn tables_in(s: State) -> bool
-    ensures { λ r. ⌜ r ≡ tablesIn s ⌝ }
+fn tables_in(s: State, words: &[u32], space: usize) -> bool
+    ensures { λ r. ⌜ r ≡ tablesIn s (now (words .entry)) space ⌝ }
 {
     if !sizes_in(s) {
         return false;
@@ -170,16 +197,23 @@ fn tables_in(s: State) -> bool
     if !objects_in(s.mutexes, s.semaphores, s.tasks.n) {
         return false;
     }
+    if !queues_in(s.queues, s.tasks.n, space) {
+        return false;
+    }
+    if !held::words_tidy(words, s.tasks.n) {
+        return false;
+    }
     lists_in(s.ready, s.waiting, s.tasks.n)
 }
 
-// Is the record sound? The tables first, then what joins them. The clause `types` says nothing of the answer: it tells the caller's proof what
-// every record of this type has. The parts are copied out first: a part that is lent out of the record would keep a copy of the whole of it.
-pub fn is_sound(s: State) -> bool
-    ensures answer { λ r. ⌜ r ≡ soundOf s ⌝ }
+// Is the record sound, with the words that tasks hold and a lent block of `space` words? The tables first, then what joins them. The clause `types`
+// says nothing of the answer: it tells the caller's proof what every record of this type has. The parts are copied out first: a part that is lent
+// out of the record would keep a copy of the whole of it.
+pub fn is_sound(s: State, words: &[u32], space: usize) -> bool
+    ensures answer { λ r. ⌜ ((block : List ℕ) → length block ≡ space → r ≡ soundOf (whole s (now (words .entry)) block)) ⌝ }
     ensures types { λ r. ⌜ Typed s ⌝ }
 {
-    if !tables_in(s) {
+    if !tables_in(s, words, space) {
         return false;
     }
     let t = s.tasks;
@@ -187,17 +221,18 @@ pub fn is_sound(s: State) -> bool
     let waiting = s.waiting;
     let mutexes = s.mutexes;
     let semaphores = s.semaphores;
+    let queues = s.queues;
     let wait = t.wait;
     let object = t.object;
     if !places_in(&wait, ready, waiting, t.n, s.running) {
         return false;
     }
-    if !waits_in(&wait, &object, mutexes, semaphores, t.n) {
+    if !waits_in(&wait, &object, mutexes, semaphores, queues, words, t.n) {
         return false;
     }
     let own = t.priority;
     let level = t.level;
-    if !levels_in(own, &level, &wait, &object, mutexes) {
+    if !levels_in(own, &level, &wait, &object, mutexes, queues) {
         return false;
     }
     if !task_list_checks::ascending(ready, level) {
@@ -211,5 +246,6 @@ pub fn is_sound(s: State) -> bool
     }
     let owners = mutexes.owner;
     let outcomes = t.outcome;
-    sound_phase::set_up_in(owners, outcomes, ready, level)
+    let used = queues.used;
+    sound_phase::set_up_in(owners, outcomes, ready, level, used, words)
 }

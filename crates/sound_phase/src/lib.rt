@@ -3,7 +3,9 @@ ghost use mathlib.Core.Path.{_≡_};
 ghost use Rattle.checks.specs.Checks.{startedIn, atRest, setUpIn};
 use record::MUTEXES;
 use record::NONE;
+use record::QUEUES;
 use record::TASKS;
+use sound_queues::held;
 use task_lists::TaskList;
 
 // After start: a task runs if any is ready; hold only with a running task; at hold 0 none ready is more urgent.
@@ -41,20 +43,28 @@ pub fn at_rest(clock: u32, hold: u8, running: u8, waiting: u8) -> bool
     waiting == 0
 }
 
-// In set-up: nothing owned, outcomes 0, as those of unused places are, and equal levels by id.
+// In set-up: no mutex owned, outcomes 0, as those of unused places are, queues empty, words 0, and equal levels by id.
 pub fn set_up_in(
     owners: [u8; MUTEXES],
     outcomes: [u8; TASKS],
     ready: TaskList,
     levels: [u8; TASKS],
+    used: [u8; QUEUES],
+    words: &[u32],
 ) -> bool
-    ensures { λ r. ⌜ r ≡ setUpIn owners outcomes ready levels ⌝ }
+    ensures { λ r. ⌜ r ≡ setUpIn owners outcomes ready levels used (now (words .entry)) ⌝ }
 {
     if !sound_objects::all_free(&owners) {
         return false;
     }
     let none = task_list_checks::used_places(0);
     if !sound_tables::unused(&outcomes, &none) {
+        return false;
+    }
+    if !sound_queues::all_empty(&used) {
+        return false;
+    }
+    if !held::words_zero(words) {
         return false;
     }
     task_list_checks::ties_by_id(ready, levels)

@@ -1,13 +1,14 @@
 // Does each task stand in one place, do the chains of waits end, and are levels as defined?
 ghost use mathlib.Core.Path.{_≡_};
 ghost use lib.ListN.{getD};
-ghost use Rattle.lists.specs.Test.{allb};
+ghost use Rattle.lists.specs.Test.{_and_, allb};
 ghost use Rattle.chains.specs.Chain.{endsb};
-ghost use Rattle.rules.specs.Sizes.{taskPlaces, maxMutexes};
+ghost use Rattle.rules.specs.Sizes.{taskPlaces, maxMutexes, maxQueues};
 ghost use Rattle.walks.specs.Walk.{taskAt, nextIn};
 ghost use Rattle.checks.specs.Checks.{waitsOnce, standsOnce, placeFits, placeAt, sameAt};
 use record::MUTEXES;
 use record::NO_WAIT;
+use record::QUEUES;
 use record::TASK_PLACES;
 use record::TASKS;
 
@@ -59,8 +60,8 @@ pub fn places<'a>(
     fits
 }
 
-// "no ring of waits": the chain of every owner ends. Who waits for nothing that is owned closes no ring.
-pub fn owners_end<'a>(next: &'a [u8; TASKS], owner: &'a [u8; MUTEXES], n: u8) -> bool
+// The chain of each of a table's owners ends.
+fn each_ends<'a>(next: &'a [u8; TASKS], owner: &'a [u8; MUTEXES], n: u8) -> bool
     ensures { λ r. ⌜ r ≡ allb maxMutexes (λ j. endsb n (nextIn (now (next .entry))) (taskAt (getD (now (owner .entry)) j 0))) ⌝ }
 {
     for j in 0..MUTEXES {
@@ -69,6 +70,32 @@ pub fn owners_end<'a>(next: &'a [u8; TASKS], owner: &'a [u8; MUTEXES], n: u8) ->
         }
     }
     true
+}
+
+// The same. Where nothing is owned, which is seen at once, there is no chain to walk along.
+fn table_ends<'a>(next: &'a [u8; TASKS], owner: &'a [u8; MUTEXES], n: u8) -> bool
+    ensures { λ r. ⌜ r ≡ allb maxMutexes (λ j. endsb n (nextIn (now (next .entry))) (taskAt (getD (now (owner .entry)) j 0))) ⌝ }
+{
+    if sound_objects::all_free(owner) {
+        return true;
+    }
+    each_ends(next, owner, n)
+}
+
+// "no ring of waits": the chain of every owner ends, of mutexes and of queues, whose tables are equally long. Who waits for nothing that is owned
+// closes no ring.
+pub fn owners_end<'a>(
+    next: &'a [u8; TASKS],
+    mutexes: &'a [u8; MUTEXES],
+    queues: &'a [u8; QUEUES],
+    n: u8,
+) -> bool
+    ensures { λ r. ⌜ r ≡ allb maxMutexes (λ j. endsb n (nextIn (now (next .entry))) (taskAt (getD (now (mutexes .entry)) j 0))) and allb maxQueues (λ j. endsb n (nextIn (now (next .entry))) (taskAt (getD (now (queues .entry)) j 0))) ⌝ }
+{
+    if !table_ends(next, mutexes, n) {
+        return false;
+    }
+    table_ends(next, queues, n)
 }
 
 // "stored levels as defined": do two tables hold the same?

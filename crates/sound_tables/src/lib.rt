@@ -8,8 +8,7 @@ use record::GRANTED;
 use record::LEVELS;
 use record::MAX_TICKS;
 use record::NO_WAIT;
-use record::ON_MUTEX;
-use record::ON_SEMAPHORE;
+use record::ON_RECEIVE;
 use record::ON_TIME;
 use record::PENDING;
 use record::TASKS;
@@ -45,10 +44,10 @@ pub fn priorities<'a>(priority: &'a [u8; TASKS], used: &'a [u8; TASKS]) -> bool
 fn wait_fits(kind: u8, object: u8, timed: u8) -> bool
     ensures { λ r. ⌜ r ≡ waitFits kind object timed ⌝ }
 {
-    let on_object = flags::either(kind == ON_MUTEX, kind == ON_SEMAPHORE);
+    let on_object = flags::both(kind != NO_WAIT, kind != ON_TIME);
     let objects = flags::either(object == 0, on_object);
     let times = flags::both(timed <= 1, flags::either(timed == 0, kind != NO_WAIT));
-    flags::both(kind <= ON_TIME, flags::both(objects, times))
+    flags::both(kind <= ON_RECEIVE, flags::both(objects, times))
 }
 
 // Waits are of a kind that there is, and hold what belongs to that kind.

@@ -1,4 +1,5 @@
 -- Definitions first, then the laws of them.
+pub mod Line
 pub mod Unread
 pub mod Examples
 pub mod WrittenLaws

@@ -17,11 +17,9 @@ use Rattle.text.specs.FieldsLaws.{fields-next, fields-last, field-first}
 use Rattle.decimal.specs.Parse.{parsed}
 use Rattle.decimal.specs.declared.Number.{Number}  -- keep
 use Rattle.decimal.specs.declared.Number.the-variants.{Value, Bad}  -- keep
-use Rattle.words.specs.Form.{longest, mostNumbers, withNumber, numbersOf, madeFrom, stepIn, stepOn}
+use Rattle.words.specs.Form.{longest, mostNumbers, words, madeBy, withNumber, numbersOf, madeFrom, stepIn, stepOn}
 use Rattle.syntax.specs.Unread.{unread, behindThese, madeWith}
-use Rattle.words.specs.Reading.{readingFor, reading}
 use Rattle.syntax.specs.WrittenLaws.{made-many}
-use Rattle.words.specs.declared.Reading.the-variants.{Malformed}  -- keep
 
 -- the field that begins at a place, and those that are left where it ends
 fields-from : (line : List ℕ) (at : ℕ) → fields (drop at line) ≡ upTo tab (drop at line) ∷ unread line (findFrom tab line at)
@@ -62,8 +60,8 @@ many-none n l (Value v) none h = refl
 many-none n l (Value v) (some k) h = made-many n (l ++ v ∷ k) (omega (arith, length-append l (v ∷ k)))
 
 -- a line that is too long
-pub line-long : (line : List ℕ) → longest < length line → Malformed ≡ readingFor (stepOn line)
-unfolding stepOn readingFor
+pub line-long : (line : List ℕ) → longest < length line → none ≡ stepOn line
+unfolding stepOn
 line-long line h = rw (lt-leb _ _ h)
 
 -- where the name ends, no number is read yet
@@ -78,13 +76,13 @@ line-name line n h e =
 -- where a field ends, with the numbers so far
 module _ (line n l : List ℕ) (at : ℕ) (h : madeWith n l at line ≡ stepOn line) where
   -- at the line's end these are all
-  pub line-end : length line ≤ at → reading n l ≡ readingFor (stepOn line)
-  unfolding reading behindThese numbersOf madeFrom
+  pub line-end : length line ≤ at → madeBy words n l ≡ stepOn line
+  unfolding behindThese numbersOf madeFrom
   line-end k = rw (← h, unread-end line at k, append-nil l)
 
   -- a field more than a word takes
-  pub line-many : at < length line → length l ≡ mostNumbers → Malformed ≡ readingFor (stepOn line)
-  unfolding numbersOf readingFor
+  pub line-many : at < length line → length l ≡ mostNumbers → none ≡ stepOn line
+  unfolding numbersOf
   line-many k m = rw (← h, unread-next line at k, many-none)
 
   -- the field that is next: it ends within the line; it is no number, or one more
@@ -92,8 +90,8 @@ module _ (line n l : List ℕ) (at : ℕ) (h : madeWith n l at line ≡ stepOn l
     pub line-within : at + 1 + length field ≤ length line
     line-within = rw f (omega (arith, upTo-most tab (drop (at + 1) line), length-drop (at + 1) line))
 
-    pub line-bad : parsed field ≡ Bad → Malformed ≡ readingFor (stepOn line)
-    unfolding behindThese withNumber numbersOf madeFrom readingFor
+    pub line-bad : parsed field ≡ Bad → none ≡ stepOn line
+    unfolding behindThese withNumber numbersOf madeFrom
     line-bad e = rw (← h, unread-next line at k, ← f, e)
 
     pub line-number : (v : ℕ) → parsed field ≡ Value v → madeWith n (l ++ v ∷ []) (at + 1 + length field) line ≡ stepOn line

@@ -1,15 +1,15 @@
--- A step's line is that step, and a line that is a step is that step's line.
-use mathlib.Core.Path.{_≡_, refl, ap, sym, _∙_}
+-- A formed step's line is that step, and a line that is a step is that formed step's line.
+use mathlib.Core.Path.{_≡_, refl, ap, _∙_}
 use mathlib.Core.List.{List, [], _∷_, _++_, map, append-nil}
-use mathlib.Core.Bool.{false}
+use mathlib.Core.Bool.{true, false}
 use mathlib.Core.Logic.{inl, inr}
 use mathlib.Core.Option.{Option, none, some}
 use Prim.Native.Nat.{ℕ, zero, suc, _+_, _*_, _/_, _≤_, _<_}
 use native.Mathlib.Omega.{arith}
 use lib.Dec.{eqb, ltb, leb}
 use lib.ListN.{length, getD, length-append}
-use borrow.Author.Tests.{ne-eqb, le-leb}
-use Rattle.lists.specs.TestLaws.{which, none-some, some-same}
+use borrow.Author.Tests.{ne-eqb, le-leb, leb-true}
+use Rattle.lists.specs.TestLaws.{which, and-r, none-some, some-same}
 use Rattle.text.specs.Cut.{upTo, Free, pieces, behind, joined}
 use Rattle.decimal.specs.Decimal.{lastDigit, digitsWithin, maxDigits, decimal}
 use Rattle.decimal.specs.DecimalLaws.{decimal-length}
@@ -19,11 +19,15 @@ use Rattle.decimal.specs.Parse.{most, parsed}
 use Rattle.decimal.specs.ParseLaws.{parse-written, written-parse}
 use Rattle.decimal.specs.declared.Number.{Number}  -- keep
 use Rattle.decimal.specs.declared.Number.the-variants.{Value, Bad}  -- keep
-use Rattle.rules.specs.Step.{Step, task, mutex, sem, start, lock, unlock, pend, post, flush, sleep, yield, hold, free, tick, level, outcome}
+use Rattle.rules.specs.Step.{Step, task, mutex, sem, start, lock, unlock, pend, post, flush, sleep, yield, hold, free, tick, level, outcome, queue, send, receive, word}
+use Rattle.rules.specs.Sizes.{heldWords}
+use Rattle.rules.specs.Answer.{isFormed}
 use Rattle.text.specs.Ascii.{ascii}
-use Rattle.words.specs.Form.{longest, mostNumbers, Word, alone, withOne, withTwo, words, sameBytes, madeBy, withNumber, numbersOf, madeFrom, stepIn, stepOn}
-use Rattle.words.specs.SameLaws.{same-equal}
-use Rattle.words.specs.FormLaws.{made-back, Each, end, _also_}
+use Rattle.words.specs.Form.{longest, mostNumbers, words, madeBy, withNumber, numbersOf, madeFrom, stepIn, stepOn}
+use Rattle.words.specs.Reading.{messageOn}
+use Rattle.words.specs.FormLaws.{made-back}
+use Rattle.words.specs.MadeLaws.{made-good}
+use Rattle.words.specs.MessageLaws.{message-most}
 use Rattle.words.specs.Written.{nameOf, numbersIn, rowOf, lineOf, Within, NumbersFit}
 
 -- rows without a tab, joined by tabs and cut again
@@ -91,6 +95,10 @@ free-name free = refl
 free-name tick = refl
 free-name (level i) = refl
 free-name (outcome i) = refl
+free-name (queue w d o) = refl
+free-name (send q t m) = refl
+free-name (receive q t) = refl
+free-name (word i n) = refl
 
 -- written numbers are read back
 numbers-back : (l : List ℕ) → Within l → numbersOf (map decimal l) ≡ some l
@@ -98,100 +106,54 @@ unfolding numbersOf withNumber
 numbers-back [] h = refl
 numbers-back (v ∷ l) h = rw (parse-written v (h 0), numbers-back l (λ i. h (suc i)))
 
--- a step's line has at most 26 bytes, far fewer than the longest line
+-- a step's line has at most 114 bytes, fewer than the longest line: a send with eight words has most
 numbers-length : (l : List ℕ) → length (behind tab (map decimal l)) ≤ 11 * length l
 unfolding behind
 numbers-length [] = omega arith
 numbers-length (v ∷ l) = omega (arith, length-append (decimal v) (behind tab (map decimal l)), decimal-length v .1, numbers-length l)
 
-row-length : (x : Step) → length (nameOf x) + 11 * length (numbersIn x) ≤ 26
-unfolding ascii nameOf numbersIn
-row-length (task p) = omega arith
-row-length (mutex k) = omega arith
-row-length (sem n m) = omega arith
-row-length start = omega arith
-row-length (lock m t) = omega arith
-row-length (unlock m) = omega arith
-row-length (pend k t) = omega arith
-row-length (post k) = omega arith
-row-length (flush k) = omega arith
-row-length (sleep t) = omega arith
-row-length yield = omega arith
-row-length hold = omega arith
-row-length free = omega arith
-row-length tick = omega arith
-row-length (level i) = omega arith
-row-length (outcome i) = omega arith
+row-length : (x : Step) → isFormed x ≡ true → length (nameOf x) + 11 * length (numbersIn x) ≤ 114
+unfolding ascii nameOf numbersIn isFormed
+row-length (task p) f = omega arith
+row-length (mutex k) f = omega arith
+row-length (sem n m) f = omega arith
+row-length start f = omega arith
+row-length (lock m t) f = omega arith
+row-length (unlock m) f = omega arith
+row-length (pend k t) f = omega arith
+row-length (post k) f = omega arith
+row-length (flush k) f = omega arith
+row-length (sleep t) f = omega arith
+row-length yield f = omega arith
+row-length hold f = omega arith
+row-length free f = omega arith
+row-length tick f = omega arith
+row-length (level i) f = omega arith
+row-length (outcome i) f = omega arith
+row-length (queue w d none) f = omega arith
+row-length (queue w d (some o)) f = omega arith
+row-length (send q t m) f = omega (arith, leb-true (length m) heldWords (and-r _ _ f))
+row-length (receive q t) f = omega arith
+row-length (word i n) f = omega arith
 
-pub line-short : (x : Step) → length (lineOf x) ≤ 26
+pub line-short : (x : Step) → isFormed x ≡ true → length (lineOf x) ≤ 114
 unfolding lineOf joined
-line-short x = omega (arith, length-append (nameOf x) (behind tab (map decimal (numbersIn x))), numbers-length (numbersIn x), row-length x)
+line-short x f = omega (arith, length-append (nameOf x) (behind tab (map decimal (numbersIn x))), numbers-length (numbersIn x), row-length x f)
 
--- a step's line is that step
-pub written-read : (x : Step) → NumbersFit x → stepOn (lineOf x) ≡ some x
+-- a step's line is that step: a send's where it has one to eight words
+pub written-read : (x : Step) → isFormed x ≡ true → NumbersFit x → stepOn (lineOf x) ≡ some x
 unfolding madeFrom stepOn stepIn lineOf
-written-read x h =
-    let fits : length (lineOf x) ≤ longest = omega (arith, line-short x) in
+written-read x f h =
+    let fits : length (lineOf x) ≤ longest = omega (arith, line-short x f) in
     let row = fields-row (nameOf x) (map decimal (numbersIn x)) (free-name x) (free-numbers (numbersIn x)) in
-    rw (le-leb _ _ fits, row, numbers-back (numbersIn x) h) (made-back x)
+    rw (le-leb _ _ fits, row, numbers-back (numbersIn x) h) (made-back x f)
 
--- what a word makes has the word's name and just the numbers given
-abbrev Good : Word → Type 0
-Good w = (l : List ℕ) (x : Step) → w .makes l ≡ some x → (nameOf x ≡ w .name) × (numbersIn x ≡ l)
-
-good-alone : (n : List ℕ) (y : Step) → nameOf y ≡ n → numbersIn y ≡ [] → Good (record { name = n; makes = alone y })
-unfolding alone
-good-alone n y e f [] x h = let k : y ≡ x = some-same h in (rw k at e, rw k at f)
-good-alone n y e f (a ∷ l) x h = none-some refl h
-
-good-one : (n : List ℕ) (g : ℕ → Step) → ((a : ℕ) → (nameOf (g a) ≡ n) × (numbersIn (g a) ≡ a ∷ [])) → Good (record { name = n; makes = withOne g })
-unfolding withOne
-good-one n g e [] x h = none-some refl h
-good-one n g e (a ∷ []) x h = let k : g a ≡ x = some-same h in rw k at (e a)
-good-one n g e (a ∷ b ∷ l) x h = none-some refl h
-
-good-two : (n : List ℕ) (g : ℕ → ℕ → Step) → ((a b : ℕ) → (nameOf (g a b) ≡ n) × (numbersIn (g a b) ≡ a ∷ b ∷ [])) → Good (record { name = n; makes = withTwo g })
-unfolding withTwo
-good-two n g e [] x h = none-some refl h
-good-two n g e (a ∷ []) x h = none-some refl h
-good-two n g e (a ∷ b ∷ []) x h = let k : g a b ≡ x = some-same h in rw k at (e a b)
-good-two n g e (a ∷ b ∷ c ∷ l) x h = none-some refl h
-
-words-good : Each Good words
-unfolding words nameOf numbersIn
-words-good =
-    good-one _ task (λ a. (refl, refl)) also
-    good-one _ mutex (λ a. (refl, refl)) also
-    good-two _ sem (λ a b. (refl, refl)) also
-    good-alone _ start refl refl also
-    good-two _ lock (λ a b. (refl, refl)) also
-    good-one _ unlock (λ a. (refl, refl)) also
-    good-two _ pend (λ a b. (refl, refl)) also
-    good-one _ post (λ a. (refl, refl)) also
-    good-one _ flush (λ a. (refl, refl)) also
-    good-one _ sleep (λ a. (refl, refl)) also
-    good-alone _ yield refl refl also
-    good-alone _ hold refl refl also
-    good-alone _ free refl refl also
-    good-alone _ tick refl refl also
-    good-one _ level (λ a. (refl, refl)) also
-    good-one _ outcome (λ a. (refl, refl)) also
-    end
-
-made-good : (n l : List ℕ) (x : Step) {ws : List Word} → Each Good ws → madeBy ws n l ≡ some x → (nameOf x ≡ n) × (numbersIn x ≡ l)
-unfolding madeBy
-made-good n l x end h = none-some refl h
-made-good n l x (_also_ {w} {ws} g gs) h = elim (which (sameBytes n (w .name))) [
-  | inl e ↦ (let r = g l x (rw e at h) in (r .0 ∙ sym (same-equal n (w .name) e), r .1))
-  | inr e ↦ made-good n l x gs (rw e at h)
-]
-
--- so no word takes more numbers than a step has at most
+-- no word takes more numbers than a step has at most
 pub made-many : (n l : List ℕ) → mostNumbers < length l → madeBy words n l ≡ none
 made-many n l h = by-made (madeBy words n l) refl where
   by-made : (o : Option Step) → madeBy words n l ≡ o → o ≡ none
   by-made none e = refl
-  by-made (some x) e = absurd (let r = made-good n l x words-good e in omega (arith, ap length (r .1), row-length x))
+  by-made (some x) e = absurd (let r = made-good n l x e in omega (arith, ap length (r .1), row-length x (r .2)))
 
 -- numbers that are read are written the same again
 number-split : {G : Type 0} (y : Number) (o : Option (List ℕ)) (l : List ℕ) → withNumber y o ≡ some l
@@ -219,18 +181,29 @@ unfolding madeFrom
 made-split n none x h g = none-some refl h
 made-split n (some l) x h g = g l refl h
 
-row-read : (fs : List (List ℕ)) (x : Step) → stepIn fs ≡ some x → NumbersFit x × (rowOf x ≡ fs)
+row-read : (fs : List (List ℕ)) (x : Step) → stepIn fs ≡ some x → NumbersFit x × (rowOf x ≡ fs) × (isFormed x ≡ true)
 unfolding stepIn
 row-read [] x h = none-some refl h
 row-read (n ∷ fs) x h = made-split n (numbersOf fs) x h (λ l g m.
-    let r = made-good n l x words-good m in
+    let r = made-good n l x m in
     let s = numbers-read fs l g in
-    (rw (r .1) (s .0), rw (r .0, r .1, s .1)))
+    (rw (r .1) (s .0), rw (r .0, r .1, s .1), r .2))
 
--- a line that is a step is that step's line
-pub read-written : (line : List ℕ) (x : Step) → stepOn line ≡ some x → NumbersFit x × (lineOf x ≡ line)
+-- a line that is a step is that step's line, and a send on it has one to eight words
+pub read-written : (line : List ℕ) (x : Step) → stepOn line ≡ some x → NumbersFit x × (lineOf x ≡ line) × (isFormed x ≡ true)
 unfolding stepOn lineOf
 read-written line x h = elim (which (leb (length line) longest)) [
-  | inl e ↦ (let r = row-read (fields line) x (rw e at h) in (r .0, ap (joined tab) (r .1) ∙ fields-line line))
+  | inl e ↦ (let r = row-read (fields line) x (rw e at h) in (r .0, ap (joined tab) (r .1) ∙ fields-line line, r .2))
   | inr e ↦ none-some refl (rw e at h)
 ]
+
+-- so a step that was read is formed, and every line's message has at most eight words
+pub read-formed : (line : List ℕ) (x : Step) → stepOn line ≡ some x → isFormed x ≡ true
+read-formed line x h = read-written line x h .2
+
+pub read-message : (line : List ℕ) → length (messageOn (stepOn line)) ≤ heldWords
+unfolding messageOn
+read-message line = by-read (stepOn line) refl where
+  by-read : (o : Option Step) → stepOn line ≡ o → length (messageOn o) ≤ heldWords
+  by-read none e = omega arith
+  by-read (some x) e = message-most x (read-formed line x e)

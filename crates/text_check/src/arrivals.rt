@@ -82,7 +82,7 @@ const MANY: usize = LONGEST + 10;
 
 // A line of n bytes, and another behind its LF, with a carry for a script's lines.
 fn long_line(n: usize)
-    requires { ⌜ n < 90 ⌝ }
+    requires { ⌜ n < 170 ⌝ }
 {
     let mut carry = [0u8; LONGEST];
     let mut s = [b'x'; MANY];
@@ -97,10 +97,10 @@ fn long_line(n: usize)
 
 pub fn longest() {
     long_line(0);
-    long_line(79);
-    long_line(80);
-    long_line(81);
-    long_line(89);
+    long_line(159);
+    long_line(160);
+    long_line(161);
+    long_line(169);
 }
 
 // One call, with any numbers.

@@ -5,13 +5,13 @@ use record::GRANTED;
 use record::MAX_TICKS;
 use record::NONE;
 use record::ON_TIME;
-use record::Out;
+use record::Plan;
 use record::State;
 use record::TIMED_OUT;
 use replies::answers;
 use replies::refusals;
 
-pub fn sleep(mut s: State, time: u32) -> Out
+pub fn sleep(mut s: State, time: u32) -> Plan
     ensures { λ r. ⌜ r ≡ sleepStep s time ⌝ }
 {
     let not_now = refusals::of_caller(s.started, s.running);
@@ -39,7 +39,7 @@ pub fn sleep(mut s: State, time: u32) -> Out
     answers::answer(s, 1, 0)
 }
 
-pub fn tick(mut s: State) -> Out
+pub fn tick(mut s: State) -> Plan
     ensures { λ r. ⌜ r ≡ tickStep s ⌝ }
 {
     if s.started == 0 {
@@ -55,8 +55,10 @@ pub fn tick(mut s: State) -> Out
     let mut tasks = waits::end_where(t, flags, GRANTED, TIMED_OUT);
     s.waiting = task_lists::keep_flagged(s.waiting, flags, 0);
     let mutexes = s.mutexes;
+    let queues = s.queues;
+    let receivers = queues.owner;
     let q = s.ready;
-    let order = settle::settle(tasks, mutexes, q, flags);
+    let order = settle::settle(tasks, mutexes, receivers, q, flags);
     let levels = order.level;
     tasks.level = levels;
     s.tasks = tasks;

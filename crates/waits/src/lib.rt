@@ -46,16 +46,15 @@ pub fn begin_wait(mut t: Tasks, i: u8, kind: u8, object: u8, clock: u32, time: u
     ensures { λ r. ⌜ r ≡ waitBegun t i kind object (timedFor time) (dueFor clock time) ⌝ }
 {
     let j = i as usize;
-    if TASKS <= j {
-        return t;
-    }
     let timed = timed_for(time);
     let due = due_for(clock, time);
-    t.wait[j] = kind;
-    t.object[j] = object;
-    t.timed[j] = timed;
-    t.due[j] = due;
-    t.outcome[j] = PENDING;
+    if j < TASKS {
+        t.wait[j] = kind;
+        t.object[j] = object;
+        t.timed[j] = timed;
+        t.due[j] = due;
+        t.outcome[j] = PENDING;
+    }
     t
 }
 

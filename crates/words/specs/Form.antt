@@ -3,23 +3,25 @@ use mathlib.Core.List.{List, [], _∷_}
 use mathlib.Core.Bool.{Bool, true, false, cond}
 use mathlib.Core.Option.{Option, none, some}
 use Prim.Native.Nat.{ℕ}
-use lib.Dec.{eqb, leb}
+use lib.Dec.{eqb, ltb, leb}
 use lib.ListN.{length}
 use Rattle.lists.specs.Test.{_and_}
 use Rattle.text.specs.Fields.{fields}
 use Rattle.decimal.specs.Parse.{parsed}
 use Rattle.decimal.specs.declared.Number.{Number}
 use Rattle.decimal.specs.declared.Number.the-variants.{Value, Bad}
-use Rattle.rules.specs.Step.{Step, task, mutex, sem, start, lock, unlock, pend, post, flush, sleep, yield, hold, free, tick, level, outcome}
+use Rattle.rules.specs.Step.{Step, task, mutex, sem, start, lock, unlock, pend, post, flush, sleep, yield, hold, free, tick, level, outcome, queue, send, receive, word}
+use Rattle.rules.specs.Sizes.{heldWords}
 use Rattle.text.specs.Ascii.{ascii}
 
 -- a script's first line: "The first line is `kernel`, tab, `1`"
 unfoldable pub headerBytes : List ℕ
 headerBytes = ascii "kernel\t1"
 
--- "Lines over 80 bytes without the LF .. are answered 14" (no step is so long: WrittenLaws of `syntax`, line-short)
+-- "Lines over 80 bytes without the LF .. are answered 14", and document 02, K1: "Script lines may now have 160 bytes" (no step is so long:
+-- WrittenLaws of `syntax`, line-short)
 abbrev pub longest : ℕ
-longest = 80
+longest = 160
 
 -- a step's name, and the step that it is with its numbers: none where the name does not take such numbers
 pub record Word : Type 0 where
@@ -42,11 +44,25 @@ withTwo f (a ∷ []) = none
 withTwo f (a ∷ b ∷ []) = some (f a b)
 withTwo f (a ∷ b ∷ c ∷ l) = none
 
--- no word takes more numbers (WrittenLaws of `syntax`, made-many)
-abbrev pub mostNumbers : ℕ
-mostNumbers = 2
+-- with two, and a third that may be left out: "`queue w d` or `queue w d owner`"
+unfoldable pub withTwoOrThree : (ℕ → ℕ → Option ℕ → Step) → List ℕ → Option Step
+withTwoOrThree f [] = none
+withTwoOrThree f (a ∷ []) = none
+withTwoOrThree f (a ∷ b ∷ []) = some (f a b none)
+withTwoOrThree f (a ∷ b ∷ c ∷ []) = some (f a b (some c))
+withTwoOrThree f (a ∷ b ∷ c ∷ d ∷ l) = none
 
--- "a step's name above and its numbers": the steps in the order of "Steps"
+-- with two and the words of a message: "`send q t` and w words", "14 for a send with no word or over 8"
+unfoldable pub withWords : (ℕ → ℕ → List ℕ → Step) → List ℕ → Option Step
+withWords f [] = none
+withWords f (a ∷ []) = none
+withWords f (a ∷ b ∷ m) = cond (ltb 0 (length m) and leb (length m) heldWords) (some (f a b m)) none
+
+-- no word takes more numbers (WrittenLaws of `syntax`, made-many): a send has two and at most eight words
+abbrev pub mostNumbers : ℕ
+mostNumbers = 10
+
+-- "a step's name above and its numbers": the steps in the order of "Steps", then those of document 02
 unfoldable pub words : List Word
 words =
     record { name = ascii "task"; makes = withOne task } ∷
@@ -65,6 +81,10 @@ words =
     record { name = ascii "tick"; makes = alone tick } ∷
     record { name = ascii "level"; makes = withOne level } ∷
     record { name = ascii "outcome"; makes = withOne outcome } ∷
+    record { name = ascii "queue"; makes = withTwoOrThree queue } ∷
+    record { name = ascii "send"; makes = withWords send } ∷
+    record { name = ascii "receive"; makes = withTwo receive } ∷
+    record { name = ascii "word"; makes = withTwo word } ∷
     []
 
 -- two rows of bytes are the same
@@ -98,6 +118,6 @@ unfoldable pub stepIn : List (List ℕ) → Option Step
 stepIn [] = none
 stepIn (n ∷ fs) = madeFrom n (numbersOf fs)
 
--- the step that a line is: "Lines over 80 bytes without the LF, empty lines and anything else are answered 14"
+-- the step that a line is: "Lines over 80 bytes without the LF, empty lines and anything else are answered 14", with 160 for 80
 unfoldable pub stepOn : List ℕ → Option Step
 stepOn line = cond (leb (length line) longest) (stepIn (fields line)) none

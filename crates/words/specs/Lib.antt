@@ -4,3 +4,5 @@ pub mod Reading
 pub mod Written
 pub mod SameLaws
 pub mod FormLaws
+pub mod MadeLaws
+pub mod MessageLaws

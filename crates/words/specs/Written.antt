@@ -1,12 +1,14 @@
--- How a step is written: the one line that it has. WrittenLaws of `syntax` proves that these lines, and no others, are steps.
+-- How a step is written: the one line that it has. WrittenLaws of `syntax` proves that these lines, for a send those with one to eight words,
+-- and no others, are steps.
 use mathlib.Core.List.{List, [], _∷_, map}
+use mathlib.Core.Option.{none, some}
 use Prim.Native.Nat.{ℕ, _≤_}
 use lib.ListN.{getD}
 use Rattle.text.specs.Cut.{joined}
 use Rattle.decimal.specs.Decimal.{decimal}
 use Rattle.text.specs.Fields.{tab}
 use Rattle.decimal.specs.Parse.{most}
-use Rattle.rules.specs.Step.{Step, task, mutex, sem, start, lock, unlock, pend, post, flush, sleep, yield, hold, free, tick, level, outcome}
+use Rattle.rules.specs.Step.{Step, task, mutex, sem, start, lock, unlock, pend, post, flush, sleep, yield, hold, free, tick, level, outcome, queue, send, receive, word}
 use Rattle.text.specs.Ascii.{ascii}
 
 -- "a step's name above"
@@ -27,6 +29,10 @@ nameOf free = ascii "free"
 nameOf tick = ascii "tick"
 nameOf (level i) = ascii "level"
 nameOf (outcome i) = ascii "outcome"
+nameOf (queue w d o) = ascii "queue"
+nameOf (send q t m) = ascii "send"
+nameOf (receive q t) = ascii "receive"
+nameOf (word i n) = ascii "word"
 
 -- "and its numbers"
 unfoldable pub numbersIn : Step → List ℕ
@@ -46,6 +52,11 @@ numbersIn free = []
 numbersIn tick = []
 numbersIn (level i) = i ∷ []
 numbersIn (outcome i) = i ∷ []
+numbersIn (queue w d none) = w ∷ d ∷ []
+numbersIn (queue w d (some o)) = w ∷ d ∷ o ∷ []
+numbersIn (send q t m) = q ∷ t ∷ m
+numbersIn (receive q t) = q ∷ t ∷ []
+numbersIn (word i n) = i ∷ n ∷ []
 
 -- "Fields are parted by one tab", the numbers "decimal"
 abbrev pub rowOf : Step → List (List ℕ)

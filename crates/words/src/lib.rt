@@ -1,19 +1,37 @@
-// A step's name with its numbers to the step's request.
+// A step's name with its numbers to the step's request and the message beside it.
 ghost use mathlib.Core.Path.{_≡_};
 ghost use mathlib.Core.Bool.{cond};
+ghost use mathlib.Core.List.{[]};
 ghost use Prim.Native.Nat.{_≤_, _<_};
+ghost use lib.Dec.{ltb, leb};
 ghost use lib.ListN.{length, getD};
-ghost use Rattle.words.specs.Form.{sameBytes};
-ghost use Rattle.words.specs.Reading.{reading, shortName};
+ghost use Rattle.lists.specs.Test.{_and_};
+ghost use Rattle.words.specs.Form.{sameBytes, mostNumbers};
+ghost use Rattle.words.specs.Reading.{reading, shortName, fewNumbers, wordsIn, messageIn, messageWith};
+use record::EIGHT;
 use record::Request;
 
-// The most bytes of a short name. Half of the words are short, so a name is compared with half of the words only.
+// The most bytes of a short name, and the most numbers of most words. A name is compared only with the words that are as short
+// or as long as it is and take as few or as many numbers: eight at most.
 const SHORT: usize = 4;
+
+const FEW: usize = 1;
+
+// The numbers of a send ahead of its words, and the most that it takes with them, as no other word does.
+const AHEAD: usize = 2;
+
+pub const MOST_NUMBERS: usize = AHEAD + EIGHT;
 
 // What was read: a step's request, or nothing of the form.
 pub enum Reading {
     Made(Request),
     Malformed,
+}
+
+// The words of a message, and how many there are; the rest 0. It stands beside its request, as an enum holds no array.
+pub struct Message {
+    pub words: [u32; EIGHT],
+    pub n: usize,
 }
 
 // Are the bytes the same?
@@ -53,16 +71,23 @@ fn made_if(fits: bool, request: Request) -> Reading
     Reading::Malformed
 }
 
-// A short name with its numbers. Each word decides how many it takes.
-fn short_word(name: &[u8], numbers: &[u32]) -> Reading
+// Are there as many numbers as a send takes: one to eight words behind the first two?
+fn fits_send(n: usize) -> bool
+    ensures { λ r. ⌜ r ≡ (ltb 2 n and leb n mostNumbers) ⌝ }
+{
+    if n <= AHEAD {
+        return false;
+    }
+    n <= MOST_NUMBERS
+}
+
+// A short name with more than one number. Each word decides how many it takes.
+fn short_more(name: &[u8], numbers: &[u32]) -> Reading
     requires { ⌜ length (now name) ≤ shortName ⌝ }
+    requires { ⌜ fewNumbers < length (now numbers) ⌝ }
     ensures { λ r. ⌜ r ≡ reading (now (name .entry)) (now (numbers .entry)) ⌝ }
 {
     let n = numbers.len();
-    if same(name, b"task") {
-        let priority = number(numbers, 0);
-        return made_if(n == 1, Request::Task { priority });
-    }
     if same(name, b"sem") {
         let count = number(numbers, 0);
         let maximum = number(numbers, 1);
@@ -77,6 +102,30 @@ fn short_word(name: &[u8], numbers: &[u32]) -> Reading
         let semaphore = number(numbers, 0);
         let time = number(numbers, 1);
         return made_if(n == 2, Request::Pend { semaphore, time });
+    }
+    if same(name, b"send") {
+        let queue = number(numbers, 0);
+        let time = number(numbers, 1);
+        return made_if(fits_send(n), Request::Send { queue, time });
+    }
+    if same(name, b"word") {
+        let task = number(numbers, 0);
+        let at = number(numbers, 1);
+        return made_if(n == 2, Request::Word { task, n: at });
+    }
+    Reading::Malformed
+}
+
+// A short name with one number or none.
+fn short_word(name: &[u8], numbers: &[u32]) -> Reading
+    requires { ⌜ length (now name) ≤ shortName ⌝ }
+    requires { ⌜ length (now numbers) ≤ fewNumbers ⌝ }
+    ensures { λ r. ⌜ r ≡ reading (now (name .entry)) (now (numbers .entry)) ⌝ }
+{
+    let n = numbers.len();
+    if same(name, b"task") {
+        let priority = number(numbers, 0);
+        return made_if(n == 1, Request::Task { priority });
     }
     if same(name, b"post") {
         let semaphore = number(numbers, 0);
@@ -94,9 +143,41 @@ fn short_word(name: &[u8], numbers: &[u32]) -> Reading
     Reading::Malformed
 }
 
-// A longer name with its numbers.
+// A longer name with more than one number. A queue's owner may be left out.
+fn long_more(name: &[u8], numbers: &[u32]) -> Reading
+    requires { ⌜ shortName < length (now name) ⌝ }
+    requires { ⌜ fewNumbers < length (now numbers) ⌝ }
+    ensures { λ r. ⌜ r ≡ reading (now (name .entry)) (now (numbers .entry)) ⌝ }
+{
+    let n = numbers.len();
+    if same(name, b"queue") {
+        let width = number(numbers, 0);
+        let depth = number(numbers, 1);
+        if n == 2 {
+            return Reading::Made(Request::Queue { width, depth });
+        }
+        let owner = number(numbers, 2);
+        return made_if(
+            n == 3,
+            Request::OwnedQueue {
+                width,
+                depth,
+                owner,
+            },
+        );
+    }
+    if same(name, b"receive") {
+        let queue = number(numbers, 0);
+        let time = number(numbers, 1);
+        return made_if(n == 2, Request::Receive { queue, time });
+    }
+    Reading::Malformed
+}
+
+// A longer name with one number or none.
 fn long_word(name: &[u8], numbers: &[u32]) -> Reading
     requires { ⌜ shortName < length (now name) ⌝ }
+    requires { ⌜ length (now numbers) ≤ fewNumbers ⌝ }
     ensures { λ r. ⌜ r ≡ reading (now (name .entry)) (now (numbers .entry)) ⌝ }
 {
     let n = numbers.len();
@@ -138,7 +219,51 @@ pub fn read_word(name: &[u8], numbers: &[u32]) -> Reading
     ensures { λ r. ⌜ r ≡ reading (now (name .entry)) (now (numbers .entry)) ⌝ }
 {
     if name.len() <= SHORT {
+        if FEW < numbers.len() {
+            return short_more(name, numbers);
+        }
         return short_word(name, numbers);
     }
+    if FEW < numbers.len() {
+        return long_more(name, numbers);
+    }
     long_word(name, numbers)
+}
+
+// No message.
+pub fn no_message() -> Message
+    ensures { λ r. ⌜ r ≡ messageWith [] ⌝ }
+{
+    let words = [0; EIGHT];
+    Message { words, n: 0 }
+}
+
+// The message of a send: the words behind its first two numbers, at most eight.
+fn words_in(numbers: &[u32]) -> Message
+    ensures { λ r. ⌜ r ≡ messageWith (wordsIn (now (numbers .entry))) ⌝ }
+{
+    let mut words = [0; EIGHT];
+    let mut n = 0;
+    while n < EIGHT {
+        let at = n + AHEAD;
+        if numbers.len() <= at {
+            return Message { words, n };
+        }
+        words[n] = numbers[at];
+        n += 1;
+    }
+    Message { words, n }
+}
+
+// The message beside what was read of a name with these numbers.
+pub fn message_of(reading: Reading, numbers: &[u32]) -> Message
+    ensures { λ r. ⌜ r ≡ messageWith (messageIn reading (now (numbers .entry))) ⌝ }
+{
+    let Reading::Made(request) = reading else {
+        return no_message();
+    };
+    let Request::Send { queue, time } = request else {
+        return no_message();
+    };
+    words_in(numbers)
 }

@@ -1,11 +1,14 @@
 -- `call`: the record is tested, and then it goes by what is asked for.
-use borrow.Author.Needs.{needs}
+use mathlib.Core.Path.{_≡_, ap, sym, _∙_}
+use mathlib.Core.List.{List}
 use borrow.Author.Tests.{not-true, not-false}
-use mathlib.Core.Path.{ap, sym, _∙_}
-use Rattle.record.specs.StepRecord.{stays, stepOf}
-use Rattle.record.specs.DemandRecord.{standingBy, standingIn}
-use Rattle.machine.specs.MachineLaws.{sound-step}
+use Rattle.record.specs.Whole.{whole}
+use Rattle.machine.specs.Planned.{carried}
+use Rattle.kernel.specs.Planning.{Known}
+use Rattle.kernel.specs.PlanningLaws.{malformed-gives, unsound-gives, performed-gives}
 use Rattle.calls.specs.Call.{callOf}
+use Rattle.calls.specs.CallLaws.{malformed-call}
+use borrow.Author.Needs.{needs}
 use Rattle.calls.proofs.call.Statement.{statement}
 use Rattle.calls.proofs.call.Tie as tie
 
@@ -21,25 +24,64 @@ enum-told c = search needs
 malformed-requires : tie.Need-malformed-requires
 malformed-requires c κs = search needs
 
+stay-requires : tie.Need-stay-requires
+stay-requires c κs = search needs
+
 returns : tie.Need-returns
-unfolding callOf standingIn
-returns c = let s = c .before .before .before .before .args .s in rw (c .before .enum-told .given .1) (c .malformed .ensures ∙ ap (λ b. stays s 14 0 (standingBy b s)) (c .before .before .before .is-sound .ensures .0))
+returns c = λ m block l n.
+    let a = c .before .before .before .before .before .before .args in
+    let test = c .before .before .before .before .is-sound in
+    let h = whole (a .s) (a .words .now) block in
+    ap (carried h m) (c .stay .ensures) ∙ rw (c .before .before .enum-told .given .1) (malformed-call (test .result) h m (test .ensures .0 block n) _ (c .before .malformed .ensures))
+
+is-formed-requires : tie.Need-is-formed-requires
+is-formed-requires c κs = search needs
+
+malformed-requires-2 : tie.Need-malformed-requires-2
+malformed-requires-2 c κs = search needs
+
+stay-requires-2 : tie.Need-stay-requires-2
+stay-requires-2 c κs = search needs
+
+returns-2 : tie.Need-returns-2
+unfolding callOf
+returns-2 c = λ m block l n.
+    let asked = c .before .before .before .before .before in
+    let a = asked .before .before .before .before .args in
+    let test = asked .before .before .is-sound in
+    let h = whole (a .s) (a .words .now) block in
+    let K : Known (test .result) h = record { typed = test .ensures .1; truth = test .ensures .0 block n } in
+    ap (carried h m) (c .stay2 .ensures) ∙ rw (asked .x .given .1) (malformed-gives _ _ _ _ _ _ (sym (c .before .before .before .is-formed .ensures) ∙ not-true _ (c .before .before .if1 .taken)) _ (c .before .malformed2 .ensures) m block l n K)
 
 unsound-requires : tie.Need-unsound-requires
 unsound-requires c κs = search needs
 
-returns-2 : tie.Need-returns-2
-unfolding callOf stepOf
-returns-2 c = rw (c .before .before .before .x .given .1, sym (c .before .before .before .before .before .is-sound .ensures .0) ∙ not-true (c .before .before .before .before .before .is-sound .result) (c .before .if1 .taken)) (c .unsound .ensures)
+stay-requires-3 : tie.Need-stay-requires-3
+stay-requires-3 c κs = search needs
+
+returns-3 : tie.Need-returns-3
+unfolding callOf
+returns-3 c = λ m block l n.
+    let asked = c .before .before .before .before .before .before in
+    let a = asked .before .before .before .before .args in
+    let test = asked .before .before .is-sound in
+    let formed = c .before .before .before .before .is-formed in
+    let h = whole (a .s) (a .words .now) block in
+    let K : Known (test .result) h = record { typed = test .ensures .1; truth = test .ensures .0 block n } in
+    ap (carried h m) (c .stay3 .ensures) ∙ rw (asked .x .given .1) (unsound-gives _ _ _ _ _ _ (sym (formed .ensures) ∙ not-false (formed .result) (c .before .before .before .if1 .left)) (not-true (test .result) (c .before .before .if2 .taken)) _ (c .before .unsound .ensures) m block l n K)
 
 perform-requires : tie.Need-perform-requires
 perform-requires c κs = search needs
 
-returns-3 : tie.Need-returns-3
+returns-4 : tie.Need-returns-4
 unfolding callOf
-returns-3 c = let s = c .before .before .before .before .before .before .args .s in
-    let t = c .before .before .before .before .before .is-sound in
-    rw (c .before .before .before .x .given .1) (c .perform .ensures ∙ sound-step s (t .ensures .1) (sym (t .ensures .0) ∙ not-false (t .result) (c .before .if1 .left)) _)
+returns-4 c = λ m block l n.
+    let asked = c .before .before .before .before .before in
+    let a = asked .before .before .before .before .args in
+    let test = asked .before .before .is-sound in
+    let formed = c .before .before .before .is-formed in
+    let K : Known (test .result) (whole (a .s) (a .words .now) block) = record { typed = test .ensures .1; truth = test .ensures .0 block n } in
+    rw (asked .x .given .1) (performed-gives _ _ _ _ _ _ (sym (formed .ensures) ∙ not-false (formed .result) (c .before .before .if1 .left)) (not-false (test .result) (c .before .if2 .left)) _ (c .perform .ensures) m block l n K)
 
 pub call-spec : {M : Type 1} → statement M
 call-spec =
@@ -49,8 +91,14 @@ call-spec =
     enum-known-x
     enum-told
     malformed-requires
+    stay-requires
     returns
-    unsound-requires
+    is-formed-requires
+    malformed-requires-2
+    stay-requires-2
     returns-2
+    unsound-requires
+    stay-requires-3
+    returns-3
     perform-requires
-    returns-3)
+    returns-4)

@@ -6,10 +6,11 @@ use Rattle.cungkalisa.proofs.main.Statement.{statement}
 use Rattle.cungkalisa.proofs.main.Tie as tie
 
 abbrev Inv-loop : tie.InvT-loop
-Inv-loop carry₀ piece₀ log₀ s₀ turns₀ carry piece log s turns = (length carry ≡ 80) × (length piece ≡ 16384) × (length log ≡ 16384)
+Inv-loop words₀ block₀ carry₀ piece₀ log₀ s₀ turns₀ words block carry piece log s turns =
+    (length words ≡ 128) × (length block ≡ 4096) × (length carry ≡ 160) × (length piece ≡ 16384) × (length log ≡ 16384)
 
 abbrev μ-loop : tie.MeasureT-loop
-μ-loop carry₀ piece₀ log₀ s₀ turns₀ carry piece log s turns = turns
+μ-loop words₀ block₀ carry₀ piece₀ log₀ s₀ turns₀ words block carry piece log s turns = turns
 
 begin-requires : tie.Need-begin-requires Inv-loop μ-loop
 begin-requires c κs = search needs
@@ -25,6 +26,12 @@ slice-aggregate-one-turn-2 c = search needs
 
 slice-aggregate-one-turn-3 : tie.Need-slice-aggregate-one-turn-3 Inv-loop μ-loop
 slice-aggregate-one-turn-3 c = search needs
+
+slice-aggregate-one-turn-4 : tie.Need-slice-aggregate-one-turn-4 Inv-loop μ-loop
+slice-aggregate-one-turn-4 c = search needs
+
+slice-aggregate-one-turn-5 : tie.Need-slice-aggregate-one-turn-5 Inv-loop μ-loop
+slice-aggregate-one-turn-5 c = search needs
 
 one-turn-requires : tie.Need-one-turn-requires Inv-loop μ-loop
 one-turn-requires c κs = search needs
@@ -55,6 +62,8 @@ main-spec =
     slice-aggregate-one-turn
     slice-aggregate-one-turn-2
     slice-aggregate-one-turn-3
+    slice-aggregate-one-turn-4
+    slice-aggregate-one-turn-5
     one-turn-requires
     returns
     sub-turns

@@ -13,25 +13,31 @@ use Rattle.leads.proofs.leads_of.Statement.{statement}
 use Rattle.leads.proofs.leads_of.Tie as tie
 
 abbrev Inv-loop : tie.InvT-loop
-Inv-loop wait object mutexes a₀ i₀ a i = (i ≤ taskPlaces) × (a ≡ soFar taskPlaces (λ j. ledBy mutexes (getD wait j 0) (getD object j 0)) noId i)
+Inv-loop wait object mutexes queues a₀ i₀ a i = (i ≤ taskPlaces) × (a ≡ soFar taskPlaces (λ j. ledBy mutexes queues (getD wait j 0) (getD object j 0)) noId i)
 
 abbrev μ-loop : tie.MeasureT-loop
-μ-loop wait object mutexes a₀ i₀ a i = taskPlaces - i
+μ-loop wait object mutexes queues a₀ i₀ a i = taskPlaces - i
 
 loop-holds : tie.Need-loop-holds Inv-loop μ-loop
-loop-holds c = let a = c .args in (search needs, fill-none taskPlaces (λ j. ledBy (a .t3) (getD (a .wait .now) j 0) (getD (a .object .now) j 0)) noId)
+loop-holds c = let a = c .args in (search needs, fill-none taskPlaces (λ j. ledBy (a .t3) (a .t4) (getD (a .wait .now) j 0) (getD (a .object .now) j 0)) noId)
 
 element-copy-out-at : tie.Need-element-copy-out-at Inv-loop μ-loop
 element-copy-out-at c = search needs
 
+cast-holder : tie.Need-cast-holder Inv-loop μ-loop
+cast-holder c = search needs
+
+array-read-holder : tie.Need-array-read-holder Inv-loop μ-loop
+array-read-holder c = search needs
+
+cast-receiver : tie.Need-cast-receiver Inv-loop μ-loop
+cast-receiver c = search needs
+
+array-read-receiver : tie.Need-array-read-receiver Inv-loop μ-loop
+array-read-receiver c = search needs
+
 element-copy-out-led-to : tie.Need-element-copy-out-led-to Inv-loop μ-loop
 element-copy-out-led-to c = search needs
-
-cast-led-to : tie.Need-cast-led-to Inv-loop μ-loop
-cast-led-to c = search needs
-
-array-read-led-to : tie.Need-array-read-led-to Inv-loop μ-loop
-array-read-led-to c = search needs
 
 led-to-requires : tie.Need-led-to-requires Inv-loop μ-loop
 led-to-requires c κs = search needs
@@ -49,13 +55,13 @@ loop-again : tie.Need-loop-again Inv-loop μ-loop
 loop-again c =
     let a = c .before .before .before .before .before .args in
     let l = c .before .before .before .before .loop in
-    (search needs, fill-more taskPlaces (λ j. ledBy (a .t3) (getD (a .wait .now) j 0) (getD (a .object .now) j 0)) noId (l .a) (l .i) _ (omega arith) (l .inv .1) (c .led-to .ensures ∙ led-same (a .t3) (getD (a .wait .now) (l .i) 0) (getD (a .object .now) (l .i) 0) (search needs)))
+    (search needs, fill-more taskPlaces (λ j. ledBy (a .t3) (a .t4) (getD (a .wait .now) j 0) (getD (a .object .now) j 0)) noId (l .a) (l .i) _ (omega arith) (l .inv .1) (c .led-to .ensures ∙ led-same (a .t3) (a .t4) (getD (a .wait .now) (l .i) 0) (getD (a .object .now) (l .i) 0) (search needs) (search needs)))
 
 returns : tie.Need-returns Inv-loop μ-loop
 returns c =
     let a = c .before .before .args in
     let l = c .before .loop in
-    fill-done taskPlaces (λ j. ledBy (a .t3) (getD (a .wait .now) j 0) (getD (a .object .now) j 0)) noId (l .a) (l .i) (omega arith) (l .inv .1)
+    fill-done taskPlaces (λ j. ledBy (a .t3) (a .t4) (getD (a .wait .now) j 0) (getD (a .object .now) j 0)) noId (l .a) (l .i) (omega arith) (l .inv .1)
 
 pub leads-of-spec : {M : Type 1} → statement M
 leads-of-spec =
@@ -65,9 +71,11 @@ leads-of-spec =
     μ-loop
     loop-holds
     element-copy-out-at
+    cast-holder
+    array-read-holder
+    cast-receiver
+    array-read-receiver
     element-copy-out-led-to
-    cast-led-to
-    array-read-led-to
     led-to-requires
     array-write-a
     add-i

@@ -4,13 +4,19 @@ use Rattle.leads.proofs.led_to.Statement.{statement}
 use Rattle.leads.proofs.led_to.Tie as tie
 
 returns : tie.Need-returns
-returns c = rw (ne-eqb _ _ (c .if1 .taken))
+returns c = rw (eq-eqb _ _ (c .before .if1 .taken), le-ltb _ _ (c .if2 .taken))
 
 returns-2 : tie.Need-returns-2
-returns-2 c = rw (eq-eqb _ _ (c .before .if1 .left), le-ltb _ _ (c .if2 .taken))
+returns-2 c = rw (eq-eqb _ _ (c .before .if1 .taken), lt-ltb _ _ (c .if2 .left))
 
 returns-3 : tie.Need-returns-3
-returns-3 c = rw (eq-eqb _ _ (c .before .if1 .left), lt-ltb _ _ (c .if2 .left))
+returns-3 c = rw (ne-eqb _ _ (c .before .if1 .left), ne-eqb _ _ (c .if3 .taken))
+
+returns-4 : tie.Need-returns-4
+returns-4 c = rw (ne-eqb _ _ (c .before .before .if1 .left), eq-eqb _ _ (c .before .if3 .left), le-ltb _ _ (c .if4 .taken))
+
+returns-5 : tie.Need-returns-5
+returns-5 c = rw (ne-eqb _ _ (c .before .before .if1 .left), eq-eqb _ _ (c .before .if3 .left), lt-ltb _ _ (c .if4 .left))
 
 pub led-to-spec : {M : Type 1} → statement M
-led-to-spec = tie.close (tie.spec returns returns-2 returns-3)
+led-to-spec = tie.close (tie.spec returns returns-2 returns-3 returns-4 returns-5)

@@ -1,26 +1,29 @@
 -- `leads::none_waits` meets its contract. The loop carries the test of the places passed. Assumes nothing.
 use borrow.Author.Needs.{needs}
-use mathlib.Core.Path.{_≡_}
+use mathlib.Core.Path.{_≡_, refl, _∙_}
 use Prim.Native.Nat.{_-_, _≤_}
 use native.Mathlib.Omega.{arith}
 use Rattle.lists.specs.Test.{allb}
 use Rattle.lists.specs.LoopLaws.{all-none, fits-more, fits-done}
 use Rattle.rules.specs.Sizes.{taskPlaces}
-use Rattle.record.specs.Reads.{noMutexAt}
+use Rattle.record.specs.Reads.{leadsNowhereAt}
 use Rattle.leads.proofs.none_waits.Statement.{statement}
 use Rattle.leads.proofs.none_waits.Tie as tie
 
 abbrev Inv-loop : tie.InvT-loop
-Inv-loop wait none₀ i₀ none i = (i ≤ taskPlaces) × (none ≡ allb i (noMutexAt wait))
+Inv-loop wait none₀ i₀ none i = (i ≤ taskPlaces) × (none ≡ allb i (leadsNowhereAt wait))
 
 abbrev μ-loop : tie.MeasureT-loop
 μ-loop wait none₀ i₀ none i = taskPlaces - i
 
 loop-holds : tie.Need-loop-holds Inv-loop μ-loop
-loop-holds c = let a = c .args in (search needs, all-none (noMutexAt (a .wait .now)))
+loop-holds c = let a = c .args in (search needs, all-none (leadsNowhereAt (a .wait .now)))
 
-element-copy-out-both : tie.Need-element-copy-out-both Inv-loop μ-loop
-element-copy-out-both c = search needs
+element-copy-out-leads-nowhere : tie.Need-element-copy-out-leads-nowhere Inv-loop μ-loop
+element-copy-out-leads-nowhere c = search needs
+
+leads-nowhere-requires : tie.Need-leads-nowhere-requires Inv-loop μ-loop
+leads-nowhere-requires c κs = search needs
 
 both-requires : tie.Need-both-requires Inv-loop μ-loop
 both-requires c κs = search needs
@@ -33,15 +36,15 @@ loop-less c = search needs
 
 loop-again : tie.Need-loop-again Inv-loop μ-loop
 loop-again c =
-    let a = c .before .before .before .before .args in
-    let l = c .before .before .before .loop in
-    (search needs, fits-more (noMutexAt (a .wait .now)) (l .i) (l .none) (c .both .result) (l .inv .1) (c .both .ensures))
+    let l = c .before .before .before .before in
+    let a = l .before .args in
+    (search needs, fits-more (leadsNowhereAt (a .wait .now)) (l .loop .i) (l .loop .none) (c .both .result) (l .loop .inv .1) (c .both .ensures ∙ rw (c .before .leads-nowhere .ensures) refl))
 
 returns : tie.Need-returns Inv-loop μ-loop
 returns c =
     let a = c .before .before .args in
     let l = c .before .loop in
-    fits-done (noMutexAt (a .wait .now)) (l .i) taskPlaces (l .none) (omega arith) (l .inv .1)
+    fits-done (leadsNowhereAt (a .wait .now)) (l .i) taskPlaces (l .none) (omega arith) (l .inv .1)
 
 pub none-waits-spec : {M : Type 1} → statement M
 none-waits-spec =
@@ -50,7 +53,8 @@ none-waits-spec =
     Inv-loop
     μ-loop
     loop-holds
-    element-copy-out-both
+    element-copy-out-leads-nowhere
+    leads-nowhere-requires
     both-requires
     add-i
     loop-less

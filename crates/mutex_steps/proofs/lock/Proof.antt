@@ -3,7 +3,7 @@ use borrow.Author.Needs.{needs, fits-under}
 use mir.Syntax.{w8}
 use Prim.{tt}
 use borrow.Author.Tests.{eq-eqb, ne-eqb}
-use mathlib.Core.Path.{ap, sym, _∙_}
+use mathlib.Core.Path.{refl, ap, sym, _∙_}
 use mathlib.Core.List.{List}
 use Prim.Native.Nat.{ℕ}
 use lib.ListN.{replicate}
@@ -78,10 +78,10 @@ answer-requires-5 : tie.Need-answer-requires-5
 answer-requires-5 c κs = search needs
 
 returns-5 : tie.Need-returns-5
-returns-5 c = let a = c .before .before .before .before .before .before .before .before .before .before .before .before .before .before .args in
+returns-5 c = let a = c .before .before .before .before .before .before .before .before .before .before .before .before .before .before .before .before .before .args in
     let k = a .s in
     let f = c .before .before .before .chain in
-    c .answer5 .ensures ∙ sym (waits-round k (a .m) (a .time) (c .before .before .before .before .before .before .before .before .before .before .owner-at .result) (f .result .links) (f .result .ring) (rw (← c .before .before .before .before .before .before .of-wait .ensures) (eq-eqb _ _ (c .before .before .before .before .before .if4 .left))) (c .before .before .before .before .before .before .before .before .before .before .owner-at .ensures) (f .ensures .0) (f .ensures .1) (c .before .before .if5 .taken)) ∙ sym (taken-mutex k (a .m) (a .time) (rw (← c .before .before .before .before .before .before .before .before .before .before .owner-at .ensures) (ne-eqb _ _ (c .before .before .before .before .before .before .before .before .if2 .left))) (rw (← c .before .before .before .before .before .before .before .before .before .before .owner-at .ensures) (ne-eqb _ _ (c .before .before .before .before .before .before .before .if3 .left)))) ∙ sym (lock-passed k (a .m) (a .time) (rw (← c .before .before .before .before .before .before .before .before .before .before .before .before .before .of-timed .ensures .0) (eq-eqb _ _ (c .before .before .before .before .before .before .before .before .before .before .before .before .if1 .left))))
+    c .answer5 .ensures ∙ sym (waits-round k (a .m) (a .time) (c .before .before .before .before .before .before .before .before .before .before .before .before .before .owner-at .result) (f .result .links) (f .result .ring) (rw (← c .before .before .before .before .before .before .before .before .before .of-wait .ensures) (eq-eqb _ _ (c .before .before .before .before .before .before .before .before .if4 .left))) (c .before .before .before .before .before .before .before .before .before .before .before .before .before .owner-at .ensures) (f .ensures .0) (f .ensures .1) (c .before .before .if5 .taken)) ∙ sym (taken-mutex k (a .m) (a .time) (rw (← c .before .before .before .before .before .before .before .before .before .before .before .before .before .owner-at .ensures) (ne-eqb _ _ (c .before .before .before .before .before .before .before .before .before .before .before .if2 .left))) (rw (← c .before .before .before .before .before .before .before .before .before .before .before .before .before .owner-at .ensures) (ne-eqb _ _ (c .before .before .before .before .before .before .before .before .before .before .if3 .left)))) ∙ sym (lock-passed k (a .m) (a .time) (rw (← c .before .before .before .before .before .before .before .before .before .before .before .before .before .before .before .before .of-timed .ensures .0) (eq-eqb _ _ (c .before .before .before .before .before .before .before .before .before .before .before .before .before .before .before .if1 .left))))
 
 begin-wait-requires : tie.Need-begin-wait-requires
 begin-wait-requires c κs = search needs
@@ -102,7 +102,7 @@ answer-requires-6 : tie.Need-answer-requires-6
 answer-requires-6 c κs = search needs
 
 returns-6 : tie.Need-returns-6
-returns-6 c = let a = c .before .before .before .before .before .before .before .before .before .before .before .before .before .before .before .before .before .before .before .before .before .args in
+returns-6 c = let a = c .before .before .before .before .before .before .before .before .before .before .before .before .before .before .before .before .before .before .before .before .before .before .before .before .args in
     let k = a .s in
     let t = c .before .before .before .before .before .before .before .before .begin-wait in
     let w = c .before .before .before .before .before .before .before .push in
@@ -110,11 +110,11 @@ returns-6 c = let a = c .before .before .before .before .before .before .before 
     let waiting = putRunning (putWaiting (putTasks k (t .result)) (w .result)) noId in
     let f = c .before .before .before .before .before .before .before .before .before .before .chain in
     c .answer6 .ensures
-    ∙ ap (λ (z : State). answerIn z 1 (f .result .links)) (settled-parts waiting woken (c .before .before .before .before .before .settle .result) (c .before .before .before .dispatch .result) (c .before .before .before .before .before .settle .ensures) (c .before .before .before .dispatch .ensures)
+    ∙ ap (λ (z : State). answerIn z 1 (f .result .links)) (settled-parts waiting woken (c .before .before .before .before .before .settle .result) (c .before .before .before .dispatch .result) (c .before .before .before .before .before .settle .ensures (k .queues) refl) (c .before .before .before .dispatch .ensures)
     ∙ ap (λ (z : State). dispatched (settled z woken)) (blocked-parts k (k .running) onMutex (a .m) (a .time) (t .result) (w .result) (t .ensures) (w .ensures)))
-    ∙ sym (waits-on k (a .m) (a .time) (c .before .before .before .before .before .before .before .before .before .before .before .before .before .before .before .before .before .owner-at .result) (f .result .links) (f .result .ring) (rw (← c .before .before .before .before .before .before .before .before .before .before .before .before .before .of-wait .ensures) (eq-eqb _ _ (c .before .before .before .before .before .before .before .before .before .before .before .before .if4 .left))) (c .before .before .before .before .before .before .before .before .before .before .before .before .before .before .before .before .before .owner-at .ensures) (f .ensures .0) (f .ensures .1) (c .before .before .before .before .before .before .before .before .before .if5 .left))
-    ∙ sym (taken-mutex k (a .m) (a .time) (rw (← c .before .before .before .before .before .before .before .before .before .before .before .before .before .before .before .before .before .owner-at .ensures) (ne-eqb _ _ (c .before .before .before .before .before .before .before .before .before .before .before .before .before .before .before .if2 .left))) (rw (← c .before .before .before .before .before .before .before .before .before .before .before .before .before .before .before .before .before .owner-at .ensures) (ne-eqb _ _ (c .before .before .before .before .before .before .before .before .before .before .before .before .before .before .if3 .left))))
-    ∙ sym (lock-passed k (a .m) (a .time) (rw (← c .before .before .before .before .before .before .before .before .before .before .before .before .before .before .before .before .before .before .before .before .of-timed .ensures .0) (eq-eqb _ _ (c .before .before .before .before .before .before .before .before .before .before .before .before .before .before .before .before .before .before .before .if1 .left))))
+    ∙ sym (waits-on k (a .m) (a .time) (c .before .before .before .before .before .before .before .before .before .before .before .before .before .before .before .before .before .before .before .before .owner-at .result) (f .result .links) (f .result .ring) (rw (← c .before .before .before .before .before .before .before .before .before .before .before .before .before .before .before .before .of-wait .ensures) (eq-eqb _ _ (c .before .before .before .before .before .before .before .before .before .before .before .before .before .before .before .if4 .left))) (c .before .before .before .before .before .before .before .before .before .before .before .before .before .before .before .before .before .before .before .before .owner-at .ensures) (f .ensures .0) (f .ensures .1) (c .before .before .before .before .before .before .before .before .before .if5 .left))
+    ∙ sym (taken-mutex k (a .m) (a .time) (rw (← c .before .before .before .before .before .before .before .before .before .before .before .before .before .before .before .before .before .before .before .before .owner-at .ensures) (ne-eqb _ _ (c .before .before .before .before .before .before .before .before .before .before .before .before .before .before .before .before .before .before .if2 .left))) (rw (← c .before .before .before .before .before .before .before .before .before .before .before .before .before .before .before .before .before .before .before .before .owner-at .ensures) (ne-eqb _ _ (c .before .before .before .before .before .before .before .before .before .before .before .before .before .before .before .before .before .if3 .left))))
+    ∙ sym (lock-passed k (a .m) (a .time) (rw (← c .before .before .before .before .before .before .before .before .before .before .before .before .before .before .before .before .before .before .before .before .before .before .before .of-timed .ensures .0) (eq-eqb _ _ (c .before .before .before .before .before .before .before .before .before .before .before .before .before .before .before .before .before .before .before .before .before .before .if1 .left))))
 
 pub lock-spec : {M : Type 1} → statement M
 lock-spec =

@@ -1,6 +1,6 @@
 -- `mutex_steps::unlock` meets its contract.
 use borrow.Author.Needs.{needs}
-use mathlib.Core.Path.{ap, sym, _∙_}
+use mathlib.Core.Path.{refl, ap, sym, _∙_}
 use mathlib.Core.List.{List}
 use Prim.Native.Nat.{ℕ}
 use borrow.Author.Tests.{eq-eqb, le-leb, lt-leb, ne-eqb}
@@ -85,20 +85,20 @@ answer-requires-5 c κs = search needs
 
 returns-5 : tie.Need-returns-5
 returns-5 c =
-    let a = c .before .before .before .before .before .before .before .before .before .before .before .before .before .before .before .before .before .before .before .before .args in
+    let a = c .before .before .before .before .before .before .before .before .before .before .before .before .before .before .before .before .before .before .before .before .before .before .args in
     let k = a .s in
-    let best = c .before .before .before .before .before .before .before .before .before .before .before .before .best-for in
+    let best = c .before .before .before .before .before .before .before .before .before .before .before .before .before .before .best-for in
     let w = best .result in
-    let flags = c .before .before .before .before .before .before .before .before .before .only in
-    let m = c .before .before .before .before .before .before .before .before .before .before .before .set-owner in
-    let t = c .before .before .before .before .before .before .before .end-where in
-    let q = c .before .before .before .before .before .before .keep-flagged in
+    let flags = c .before .before .before .before .before .before .before .before .before .before .before .only in
+    let m = c .before .before .before .before .before .before .before .before .before .before .before .before .before .set-owner in
+    let t = c .before .before .before .before .before .before .before .before .before .end-where in
+    let q = c .before .before .before .before .before .before .before .before .keep-flagged in
     let woken = putWaiting (putTasks (putMutexes k (m .result)) (t .result)) (q .result) in
     c .answer5 .ensures
-    ∙ ap (λ (z : State). answerIn z 0 0) (settled-parts woken (flags .result) (c .before .before .before .before .settle .result) (c .before .before .dispatch .result) (c .before .before .before .before .settle .ensures) (c .before .before .dispatch .ensures)
+    ∙ ap (λ (z : State). answerIn z 0 0) (settled-parts woken (flags .result) (c .before .before .before .before .settle .result) (c .before .before .dispatch .result) (c .before .before .before .before .settle .ensures (k .queues) refl) (c .before .before .dispatch .ensures)
     ∙ ap (λ (z : State). dispatched (settled z (flags .result))) (woken-parts k (flags .result) granted granted (m .result) (ownerSet (k .mutexes) (a .m) w) (t .result) (q .result) (m .ensures) (t .ensures) (q .ensures))
     ∙ ap (λ (f : List ℕ). dispatched (settled (putMutexes (woke k f granted granted) (ownerSet (k .mutexes) (a .m) w)) f)) (flags .ensures))
-    ∙ sym (passes k (a .m) (rw (← c .before .before .before .before .before .before .before .before .before .before .before .before .before .before .before .before .before .before .before .of-caller .ensures) (eq-eqb _ _ (c .before .before .before .before .before .before .before .before .before .before .before .before .before .before .before .before .before .before .if1 .left))) (lt-leb _ _ (c .before .before .before .before .before .before .before .before .before .before .before .before .before .before .before .before .if2 .left)) (rw (← c .before .before .before .before .before .before .before .before .before .before .before .before .before .before .before .owner-at .ensures) (eq-eqb _ _ (c .before .before .before .before .before .before .before .before .before .before .before .before .before .if3 .left))) w (best .ensures) (ne-eqb _ _ (c .before .before .before .before .before .before .before .before .before .before .if4 .left)))
+    ∙ sym (passes k (a .m) (rw (← c .before .before .before .before .before .before .before .before .before .before .before .before .before .before .before .before .before .before .before .before .before .of-caller .ensures) (eq-eqb _ _ (c .before .before .before .before .before .before .before .before .before .before .before .before .before .before .before .before .before .before .before .before .if1 .left))) (lt-leb _ _ (c .before .before .before .before .before .before .before .before .before .before .before .before .before .before .before .before .before .before .if2 .left)) (rw (← c .before .before .before .before .before .before .before .before .before .before .before .before .before .before .before .before .before .owner-at .ensures) (eq-eqb _ _ (c .before .before .before .before .before .before .before .before .before .before .before .before .before .before .before .if3 .left))) w (best .ensures) (ne-eqb _ _ (c .before .before .before .before .before .before .before .before .before .before .before .before .if4 .left)))
 
 pub unlock-spec : {M : Type 1} → statement M
 unlock-spec =

@@ -1,14 +1,16 @@
 -- `replay`: the loop counts the lines down; nothing is asked of the places that it goes through.
 use borrow.Author.Needs.{needs}
+use mathlib.Core.Path.{_≡_}
 use Prim.Native.Nat.{_-_}
+use lib.ListN.{length}
 use Rattle.script_check.proofs.replay.Statement.{statement}
 use Rattle.script_check.proofs.replay.Tie as tie
 
 abbrev Inv-loop : tie.InvT-loop
-Inv-loop text s₀ at₀ n counter₀ s at counter = Unit
+Inv-loop text words₀ block₀ s₀ at₀ n counter₀ words block s at counter = (length words ≡ 128) × (length block ≡ 64)
 
 abbrev μ-loop : tie.MeasureT-loop
-μ-loop text s₀ at₀ n counter₀ s at counter = n - counter
+μ-loop text words₀ block₀ s₀ at₀ n counter₀ words block s at counter = n - counter
 
 first-line-requires : tie.Need-first-line-requires Inv-loop μ-loop
 first-line-requires c κs = search needs
@@ -36,6 +38,12 @@ count-lines-requires c κs = search needs
 
 loop-holds : tie.Need-loop-holds Inv-loop μ-loop
 loop-holds c = search needs
+
+slice-aggregate-step : tie.Need-slice-aggregate-step Inv-loop μ-loop
+slice-aggregate-step c = search needs
+
+slice-aggregate-step-2 : tie.Need-slice-aggregate-step-2 Inv-loop μ-loop
+slice-aggregate-step-2 c = search needs
 
 step-requires : tie.Need-step-requires Inv-loop μ-loop
 step-requires c κs = search needs
@@ -70,6 +78,8 @@ replay-spec =
     next-at-requires
     count-lines-requires
     loop-holds
+    slice-aggregate-step
+    slice-aggregate-step-2
     step-requires
     next-at-requires-2
     add-counter

@@ -13,7 +13,7 @@ resettle-requires c κs = search needs
 
 returns : tie.Need-returns
 unfolding orderOf
-returns c = rw (c .resettle .ensures, c .before .new-levels .ensures) refl
+returns c x e = rw (c .resettle .ensures, c .before .new-levels .ensures x e) refl
 
 pub settle-spec : {M : Type 1} → statement M
 settle-spec = tie.close (tie.spec new-levels-requires resettle-requires returns)

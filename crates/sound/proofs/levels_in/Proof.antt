@@ -1,8 +1,8 @@
--- `sound::levels_in` meets its contract: own priorities where nobody waits for a mutex, else what is lent. Assumes nothing.
+-- `sound::levels_in` meets its contract: own priorities where nobody waits for a mutex or to send, else what is lent. Assumes nothing.
 use borrow.Author.Needs.{needs}
 use mathlib.Core.Path.{sym, _∙_}
 use Rattle.checks.specs.Checks.{levelsIn}
-use Rattle.checks.specs.LevelCheckLaws.{levels-none}
+use Rattle.checks.specs.TestedLaws.{levels-none}
 use Rattle.sound.proofs.levels_in.Statement.{statement}
 use Rattle.sound.proofs.levels_in.Tie as tie
 
@@ -15,7 +15,7 @@ same-requires c κs = search needs
 returns : tie.Need-returns
 returns c =
     let a = c .before .before .before .before .args in
-    c .same .ensures ∙ sym (levels-none (a .t1) (a .level .now) (a .wait .now) (a .object .now) (a .m) (sym (c .before .before .before .none-waits .ensures) ∙ c .before .before .if1 .taken))
+    c .same .ensures ∙ sym (levels-none (a .t1) (a .level .now) (a .wait .now) (a .object .now) (a .m) (a .x) (sym (c .before .before .before .none-waits .ensures) ∙ c .before .before .if1 .taken))
 
 heirs-of-requires : tie.Need-heirs-of-requires
 heirs-of-requires c κs = search needs
@@ -31,7 +31,7 @@ same-requires-2 c κs = search needs
 
 returns-2 : tie.Need-returns-2
 unfolding levelsIn
-returns-2 c = rw (c .same2 .ensures, c .before .before .lent-levels .ensures, c .before .before .before .before .leads-of .ensures, c .before .before .before .before .before .heirs-of .ensures)
+returns-2 c = rw (c .same2 .ensures, c .before .before .lent-levels .ensures, c .before .before .before .before .leads-of .ensures, c .before .before .before .before .before .before .heirs-of .ensures)
 
 pub levels-in-spec : {M : Type 1} → statement M
 levels-in-spec =

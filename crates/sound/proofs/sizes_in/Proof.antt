@@ -25,9 +25,12 @@ both-requires-5 c κs = search needs
 both-requires-6 : tie.Need-both-requires-6
 both-requires-6 c κs = search needs
 
+both-requires-7 : tie.Need-both-requires-7
+both-requires-7 c κs = search needs
+
 returns : tie.Need-returns
 unfolding sizesIn
-returns c = rw (c .both6 .ensures, c .before .before .both5 .ensures, c .before .before .before .both4 .ensures, c .before .before .before .before .before .before .both3 .ensures, c .before .before .before .before .before .before .before .both2 .ensures, c .before .before .before .before .before .before .before .before .both .ensures, c .before .before .before .before .before .before .before .before .before .before .before .before .either .ensures)
+returns c = rw (c .both7 .ensures, c .before .before .both6 .ensures, c .before .before .before .both5 .ensures, c .before .before .before .before .before .before .both4 .ensures, c .before .before .before .before .before .before .before .before .both3 .ensures, c .before .before .before .before .before .before .before .before .before .both2 .ensures, c .before .before .before .before .before .before .before .before .before .before .both .ensures, c .before .before .before .before .before .before .before .before .before .before .before .before .before .before .either .ensures)
 
 pub sizes-in-spec : {M : Type 1} → statement M
 sizes-in-spec =
@@ -40,4 +43,5 @@ sizes-in-spec =
     both-requires-4
     both-requires-5
     both-requires-6
+    both-requires-7
     returns)

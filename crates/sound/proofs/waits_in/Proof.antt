@@ -1,4 +1,4 @@
--- `sound::waits_in` meets its contract. Assumes nothing.
+-- `sound::waits_in` meets its contract: phrase by phrase, until one fails. Assumes nothing.
 use borrow.Author.Needs.{needs}
 use mathlib.Core.Path.{_≡_, refl, _∙_}
 use Rattle.lists.specs.Test.{_and_, allb}
@@ -6,6 +6,7 @@ use Rattle.rules.specs.Sizes.{taskPlaces}
 use Rattle.lists.specs.LoopLaws.{test-passed, test-failed}
 use Rattle.checks.specs.Checks.{blockedAt, blockedIn, ringless, waitsIn}
 use Rattle.checks.specs.TestedLaws.{blocked-tables}
+use Rattle.sound.proofs.Facts.{owner-long}
 use Rattle.sound.proofs.waits_in.Statement.{statement}
 use Rattle.sound.proofs.waits_in.Tie as tie
 
@@ -24,23 +25,35 @@ blocked-requires c κs = search needs
 returns : tie.Need-returns
 unfolding waitsIn blockedIn ringless _and_
 returns c =
-    let a = c .before .before .before .before .before .before .before .before .args in
+    let a = c .before .before .before .before .before .before .before .before .before .before .args in
     let e : c .before .blocked .result ≡ allb taskPlaces (blockedAt (a .wait .now) (a .object .now) (a .m .owner) (a .c .count) (a .c .n)) =
     c .before .blocked .ensures ∙ rw (c .before .before .before .before .before .before .leads-of .ensures, c .before .before .before .before .at-objects .ensures, c .before .before .before .before .before .empties .ensures)
-    (blocked-tables (a .wait .now) (a .object .now) (a .m .owner) (a .c .count) (a .c .n) (search needs)) in
+    (blocked-tables (a .wait .now) (a .object .now) (a .m .owner) (a .x .owner) (a .c .count) (a .c .n) (owner-long (a .m) _ (c .before .before .before .before .before .before .before .before .before .before .good .1 .1 .0))) in
     rw (test-failed e (c .if1 .taken))
 
-owners-end-requires : tie.Need-owners-end-requires
-owners-end-requires c κs = search needs
+fit-requires : tie.Need-fit-requires
+fit-requires c κs = search needs
 
 returns-2 : tie.Need-returns-2
 unfolding waitsIn blockedIn ringless _and_
 returns-2 c =
-    let a = c .before .before .before .before .before .before .before .before .before .before .before .args in
-    let e : c .before .before .before .before .blocked .result ≡ allb taskPlaces (blockedAt (a .wait .now) (a .object .now) (a .m .owner) (a .c .count) (a .c .n)) =
-    c .before .before .before .before .blocked .ensures ∙ rw (c .before .before .before .before .before .before .before .before .before .leads-of .ensures, c .before .before .before .before .before .before .before .at-objects .ensures, c .before .before .before .before .before .before .before .before .empties .ensures)
-    (blocked-tables (a .wait .now) (a .object .now) (a .m .owner) (a .c .count) (a .c .n) (search needs)) in
-    rw (test-passed e (c .before .before .before .if1 .left)) (c .owners-end .ensures ∙ rw (c .before .before .before .before .before .before .before .before .before .leads-of .ensures) refl)
+    let a = c .before .before .before .before .before .before .before .before .before .before .before .before .args in
+    let e : c .before .before .before .blocked .result ≡ allb taskPlaces (blockedAt (a .wait .now) (a .object .now) (a .m .owner) (a .c .count) (a .c .n)) =
+    c .before .before .before .blocked .ensures ∙ rw (c .before .before .before .before .before .before .before .before .leads-of .ensures, c .before .before .before .before .before .before .at-objects .ensures, c .before .before .before .before .before .before .before .empties .ensures)
+    (blocked-tables (a .wait .now) (a .object .now) (a .m .owner) (a .x .owner) (a .c .count) (a .c .n) (owner-long (a .m) _ (c .before .before .before .before .before .before .before .before .before .before .before .before .good .1 .1 .0))) in
+    rw (test-passed e (c .before .before .if1 .left), test-failed (c .before .fit .ensures) (c .if2 .taken))
+
+owners-end-requires : tie.Need-owners-end-requires
+owners-end-requires c κs = search needs
+
+returns-3 : tie.Need-returns-3
+unfolding waitsIn blockedIn ringless _and_
+returns-3 c =
+    let a = c .before .before .before .before .before .before .before .before .before .before .before .before .before .before .before .before .args in
+    let e : c .before .before .before .before .before .before .before .blocked .result ≡ allb taskPlaces (blockedAt (a .wait .now) (a .object .now) (a .m .owner) (a .c .count) (a .c .n)) =
+    c .before .before .before .before .before .before .before .blocked .ensures ∙ rw (c .before .before .before .before .before .before .before .before .before .before .before .before .leads-of .ensures, c .before .before .before .before .before .before .before .before .before .before .at-objects .ensures, c .before .before .before .before .before .before .before .before .before .before .before .empties .ensures)
+    (blocked-tables (a .wait .now) (a .object .now) (a .m .owner) (a .x .owner) (a .c .count) (a .c .n) (owner-long (a .m) _ (c .before .before .before .before .before .before .before .before .before .before .before .before .before .before .before .before .good .1 .1 .0))) in
+    rw (test-passed e (c .before .before .before .before .before .before .if1 .left), test-passed (c .before .before .before .before .before .fit .ensures) (c .before .before .before .before .if2 .left)) (c .owners-end .ensures ∙ rw (c .before .before .before .before .before .before .before .before .before .before .before .before .leads-of .ensures) refl)
 
 pub waits-in-spec : {M : Type 1} → statement M
 waits-in-spec =
@@ -51,5 +64,7 @@ waits-in-spec =
     at-objects-requires
     blocked-requires
     returns
+    fit-requires
+    returns-2
     owners-end-requires
-    returns-2)
+    returns-3)

@@ -1,72 +1,23 @@
--- `sound_places::owners_end` meets its contract. The loop keeps that the chains of the first j owners end. Assumes nothing.
+-- `sound_places::owners_end` meets its contract: table by table, until one fails. Assumes nothing.
 use borrow.Author.Needs.{needs}
-use mathlib.Core.Path.{_≡_}
-use mathlib.Core.List.{List}
-use mathlib.Core.Bool.{Bool, true}
-use Prim.Native.Nat.{ℕ, _-_, _≤_}
-use native.Mathlib.Omega.{arith}
-use lib.ListN.{getD}
-use Rattle.lists.specs.Test.{allb}
-use Rattle.lists.specs.LoopLaws.{all-none, all-turn, all-done, all-stop}
-use Rattle.chains.specs.Chain.{endsb}
-use Rattle.rules.specs.Sizes.{maxMutexes}
-use Rattle.walks.specs.Walk.{taskAt, nextIn}
+use Rattle.lists.specs.Test.{_and_}
+use Rattle.lists.specs.LoopLaws.{test-passed, test-failed}
 use Rattle.sound_places.proofs.owners_end.Statement.{statement}
 use Rattle.sound_places.proofs.owners_end.Tie as tie
 
-abbrev endsFrom : List ℕ → List ℕ → ℕ → ℕ → Bool
-endsFrom next owners n j = endsb n (nextIn next) (taskAt (getD owners j 0))
+table-ends-requires : tie.Need-table-ends-requires
+table-ends-requires c κs = search needs
 
-abbrev Inv-loop : tie.InvT-loop
-Inv-loop next owner n j₀ j = (j ≤ maxMutexes) × (true ≡ allb j (endsFrom next owner n))
+returns : tie.Need-returns
+unfolding _and_
+returns c = rw (test-failed (c .before .table-ends .ensures) (c .if1 .taken))
 
-abbrev μ-loop : tie.MeasureT-loop
-μ-loop next owner n j₀ j = maxMutexes - j
+table-ends-requires-2 : tie.Need-table-ends-requires-2
+table-ends-requires-2 c κs = search needs
 
-loop-holds : tie.Need-loop-holds Inv-loop μ-loop
-loop-holds c = let a = c .args in (search needs, all-none (endsFrom (a .next .now) (a .owner .now) (a .n)))
-
-element-copy-out-ends : tie.Need-element-copy-out-ends Inv-loop μ-loop
-element-copy-out-ends c = search needs
-
-ends-requires : tie.Need-ends-requires Inv-loop μ-loop
-ends-requires c κs = search needs
-
-returns : tie.Need-returns Inv-loop μ-loop
-returns c =
-    let a = c .before .before .before .before .before .args in
-    let l = c .before .before .before .before .loop in
-    all-stop (endsFrom (a .next .now) (a .owner .now) (a .n)) (l .j) maxMutexes (omega arith) (c .before .ends .ensures) (c .if1 .taken)
-
-add-j : tie.Need-add-j Inv-loop μ-loop
-add-j c = search needs
-
-loop-less : tie.Need-loop-less Inv-loop μ-loop
-loop-less c = search needs
-
-loop-again : tie.Need-loop-again Inv-loop μ-loop
-loop-again c =
-    let a = c .before .before .before .before .before .args in
-    let l = c .before .before .before .before .loop in
-    (search needs, all-turn (endsFrom (a .next .now) (a .owner .now) (a .n)) (l .j) (l .inv .1) (c .before .ends .ensures) (c .if1 .left))
-
-returns-2 : tie.Need-returns-2 Inv-loop μ-loop
-returns-2 c =
-    let a = c .before .before .args in
-    let l = c .before .loop in
-    all-done (endsFrom (a .next .now) (a .owner .now) (a .n)) (l .j) maxMutexes (omega arith) (l .inv .1)
+returns-2 : tie.Need-returns-2
+unfolding _and_
+returns-2 c = rw (test-passed (c .before .before .table-ends .ensures) (c .before .if1 .left)) (c .table-ends2 .ensures)
 
 pub owners-end-spec : {M : Type 1} → statement M
-owners-end-spec =
-    tie.close
-    (tie.spec
-    Inv-loop
-    μ-loop
-    loop-holds
-    element-copy-out-ends
-    ends-requires
-    returns
-    add-j
-    loop-less
-    loop-again
-    returns-2)
+owners-end-spec = tie.close (tie.spec table-ends-requires returns table-ends-requires-2 returns-2)

@@ -1,6 +1,7 @@
 -- `time_steps::tick` meets its contract.
 use borrow.Author.Needs.{needs}
 use borrow.Author.Tests.{eq-eqb, ne-eqb, not-true, not-false}
+use mathlib.Core.Path.{refl}
 use Rattle.machine.specs.Machine.{settled, dispatched, woke, tickStep}
 use Rattle.time_steps.proofs.tick.Statement.{statement}
 use Rattle.time_steps.proofs.tick.Tie as tie
@@ -45,7 +46,7 @@ answer-requires-3 c κs = search needs
 
 returns-3 : tie.Need-returns-3
 unfolding tickStep dispatched settled woke
-returns-3 c = simp (c .answer3 .ensures, c .before .before .dispatch .ensures, c .before .before .before .before .settle .ensures, c .before .before .before .before .before .before .before .keep-flagged .ensures, c .before .before .before .before .before .before .before .before .end-where .ensures, ← c .before .before .before .before .before .before .before .before .before .before .before .any-flag .ensures, ← c .before .before .before .before .before .before .before .before .before .before .before .before .due-flags .ensures, ← c .before .before .before .before .before .before .before .before .before .before .before .before .before .due-at .ensures, not-false (c .before .before .before .before .before .before .before .before .before .before .before .any-flag .result) (c .before .before .before .before .before .before .before .before .before .before .if2 .left), ne-eqb _ _ (c .before .before .before .before .before .before .before .before .before .before .before .before .before .before .if1 .left))
+returns-3 c = simp (c .answer3 .ensures, c .before .before .dispatch .ensures, c .before .before .before .before .settle .ensures (c .before .before .before .before .before .before .before .before .before .before .before .before .before .before .before .before .before .before .args .s .queues) refl, c .before .before .before .before .before .before .before .before .before .keep-flagged .ensures, c .before .before .before .before .before .before .before .before .before .before .end-where .ensures, ← c .before .before .before .before .before .before .before .before .before .before .before .before .before .any-flag .ensures, ← c .before .before .before .before .before .before .before .before .before .before .before .before .before .before .due-flags .ensures, ← c .before .before .before .before .before .before .before .before .before .before .before .before .before .before .before .due-at .ensures, not-false (c .before .before .before .before .before .before .before .before .before .before .before .before .before .any-flag .result) (c .before .before .before .before .before .before .before .before .before .before .before .before .if2 .left), ne-eqb _ _ (c .before .before .before .before .before .before .before .before .before .before .before .before .before .before .before .before .if1 .left))
 
 pub tick-spec : {M : Type 1} → statement M
 tick-spec =

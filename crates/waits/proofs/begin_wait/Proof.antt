@@ -5,10 +5,6 @@ use Rattle.machine.specs.Machine.{waitBegun}
 use Rattle.waits.proofs.begin_wait.Statement.{statement}
 use Rattle.waits.proofs.begin_wait.Tie as tie
 
-returns : tie.Need-returns
-unfolding waitBegun
-returns c = simp (le-ltb _ _ (c .if1 .taken))
-
 timed-for-requires : tie.Need-timed-for-requires
 timed-for-requires c κs = search needs
 
@@ -33,15 +29,18 @@ element-write-t-4 c = search needs
 element-write-t-5 : tie.Need-element-write-t-5
 element-write-t-5 c = search needs
 
+returns : tie.Need-returns
+unfolding waitBegun
+returns c = simp (c .before .due-for .ensures, c .before .before .timed-for .ensures, lt-ltb _ _ (c .if1 .taken))
+
 returns-2 : tie.Need-returns-2
 unfolding waitBegun
-returns-2 c = simp (c .due-for .ensures, c .before .timed-for .ensures, lt-ltb _ _ (c .before .before .if1 .left))
+returns-2 c = simp (le-ltb _ _ (c .if1 .left))
 
 pub begin-wait-spec : {M : Type 1} → statement M
 begin-wait-spec =
     tie.close
     (tie.spec
-    returns
     timed-for-requires
     due-for-requires
     element-write-t
@@ -50,4 +49,5 @@ begin-wait-spec =
     mul-t
     element-write-t-4
     element-write-t-5
+    returns
     returns-2)

@@ -1,13 +1,15 @@
--- `long_word`: a name that was found makes what its word makes; any other is none of the longer words, and too long for the others.
+-- `long_word`: a name that was found makes what its word makes; any other is none of these words, and too long for the short ones. The words
+-- that are left take more numbers.
 use borrow.Author.Needs.{needs}
 use mathlib.Core.Path.{refl, sym, _∙_}
+use mathlib.Core.Logic.{inl, inr}
 use Rattle.lists.specs.Test.{_and_}
-use Rattle.rules.specs.Step.{mutex, start, unlock, flush, sleep, yield, level, outcome}
+use Rattle.rules.specs.Step.{mutex, start, unlock, flush, sleep, yield, level, outcome, queue, receive}
 use Rattle.record.specs.DemandRecord.{requestFor}
 use Rattle.text.specs.Ascii.{ascii}
 use Rattle.words.specs.Form.{words, sameBytes, madeBy}
 use Rattle.words.specs.Reading.{shortName}
-use Rattle.words.specs.FormLaws.{alone-read, one-read, read-found, end, _also_, longer, read-none}
+use Rattle.words.specs.FormLaws.{alone-read, one-read, few-two, few-two-or-three, read-found, end, _also_, longer, read-none}
 use Rattle.words.proofs.long_word.Statement.{statement}
 use Rattle.words.proofs.long_word.Tie as tie
 
@@ -160,24 +162,28 @@ returns-9 c =
     let at-unlock = at-flush .before .before .before in
     let at-start = at-unlock .before .before .before in
     let at-mutex = at-start .before .before .before in
-    let h = at-mutex .before .before .before .before .before .pre in
+    let given = at-mutex .before .before .before .before .before .pre in
     read-none _ _ (
-    longer shortName _ _ h refl also
-    (sym (at-mutex .before .same .ensures) ∙ at-mutex .if1 .left) also
-    longer shortName _ _ h refl also
-    (sym (at-start .before .same2 .ensures) ∙ at-start .if2 .left) also
-    longer shortName _ _ h refl also
-    (sym (at-unlock .before .same3 .ensures) ∙ at-unlock .if3 .left) also
-    longer shortName _ _ h refl also
-    longer shortName _ _ h refl also
-    (sym (at-flush .before .same4 .ensures) ∙ at-flush .if4 .left) also
-    (sym (at-sleep .before .same5 .ensures) ∙ at-sleep .if5 .left) also
-    (sym (at-yield .before .same6 .ensures) ∙ at-yield .if6 .left) also
-    longer shortName _ _ h refl also
-    longer shortName _ _ h refl also
-    longer shortName _ _ h refl also
-    (sym (at-level .before .same7 .ensures) ∙ at-level .if7 .left) also
-    (sym (at-outcome .before .same8 .ensures) ∙ at-outcome .if8 .left) also
+    inl (longer shortName _ _ (given .0) refl) also
+    inl (sym (at-mutex .before .same .ensures) ∙ at-mutex .if1 .left) also
+    inl (longer shortName _ _ (given .0) refl) also
+    inl (sym (at-start .before .same2 .ensures) ∙ at-start .if2 .left) also
+    inl (longer shortName _ _ (given .0) refl) also
+    inl (sym (at-unlock .before .same3 .ensures) ∙ at-unlock .if3 .left) also
+    inl (longer shortName _ _ (given .0) refl) also
+    inl (longer shortName _ _ (given .0) refl) also
+    inl (sym (at-flush .before .same4 .ensures) ∙ at-flush .if4 .left) also
+    inl (sym (at-sleep .before .same5 .ensures) ∙ at-sleep .if5 .left) also
+    inl (sym (at-yield .before .same6 .ensures) ∙ at-yield .if6 .left) also
+    inl (longer shortName _ _ (given .0) refl) also
+    inl (longer shortName _ _ (given .0) refl) also
+    inl (longer shortName _ _ (given .0) refl) also
+    inl (sym (at-level .before .same7 .ensures) ∙ at-level .if7 .left) also
+    inl (sym (at-outcome .before .same8 .ensures) ∙ at-outcome .if8 .left) also
+    inr (few-two-or-three queue _ (given .1)) also
+    inl (longer shortName _ _ (given .0) refl) also
+    inr (few-two receive _ (given .1)) also
+    inl (longer shortName _ _ (given .0) refl) also
     end)
 
 pub long-word-spec : {M : Type 1} → statement M

@@ -1,5 +1,4 @@
 -- `made_if`: the test decides.
-use borrow.Author.Needs.{needs}
 use Rattle.words.proofs.made_if.Statement.{statement}
 use Rattle.words.proofs.made_if.Tie as tie
 
@@ -7,7 +6,7 @@ returns : tie.Need-returns
 returns c = rw (c .if1 .taken)
 
 returns-2 : tie.Need-returns-2
-returns-2 c = search needs
+returns-2 c = rw (c .if1 .left)
 
 pub made-if-spec : {M : Type 1} → statement M
 made-if-spec = tie.close (tie.spec returns returns-2)

@@ -1,6 +1,8 @@
--- `made`: what the code asks for, called.
-use mathlib.Core.Path.{ap, _∙_}
+-- `made`: what the code asks for, planned; the words are only read.
+use mathlib.Core.Path.{refl, ap, _∙_}
+use Rattle.record.specs.Whole.{whole}
 use Rattle.calls.specs.Call.{callOf}
+use Rattle.calls.specs.declared.Asked.{Asked}
 use borrow.Author.Needs.{needs}
 use Rattle.firmware.proofs.by_value.made.Statement.{statement}
 use Rattle.firmware.proofs.by_value.made.Tie as tie
@@ -12,7 +14,10 @@ call-requires : tie.Need-call-requires
 call-requires c κs = search needs
 
 returns : tie.Need-returns
-returns c = c .call .ensures ∙ ap (callOf (c .before .before .args .s)) (c .before .request-of .ensures)
+returns c =
+    let a = c .before .before .before .before .args in
+    let asked = c .before .before .before .request-of in
+    ((λ m block l n. c .call .ensures m block l n ∙ ap (λ (x : Asked). callOf (whole (a .s) (a .words .now) block) x m) (asked .ensures)), refl)
 
 pub made-spec : {M : Type 1} → statement M
 made-spec = tie.close (tie.spec request-of-requires call-requires returns)

@@ -1,4 +1,4 @@
--- `cungkalisa_fresh`, a walk by hand: `fresh` is called by its contract, the borrow is opened, the fresh record is stored whole, and the borrow is closed.
+-- `cungkalisa_fresh`, a walk by hand: `fresh_held` is called by its contract, the borrow is opened, the fresh record is stored whole, and the borrow is closed.
 use mathlib.Core.Path.{_≡_, refl}
 use Prim.Native.Nat.{ℕ}
 use mathlib.Core.List.{[], _∷_, List}
@@ -33,36 +33,36 @@ use denote.Triple.Spec.{Meets, tripleOf}
 use denote.Triple.Table.{entered, cited}
 use denote.Triple.Walked.{says, Stays, stay-ref, walkOf, AllGo, goes-ref, Walks, ends-at, walked, walk-meets}
 use denote.Triple.Clauses.{ensured, lasts}
-use Rattle.record.specs.declared.State.{State}
-use Rattle.record.specs.DemandRecord.{freshRecord}
-use Rattle.record.proofs.State as T
-use Rattle.record.proofs.State.Laws as T′
-use Rattle.record.proofs.fresh as g
-use Rattle.record.proofs.fresh.Symbol as g-def
-use Rattle.record.proofs.fresh.Symbol.{name as #fresh}
-use Rattle.record.proofs.fresh.Met as g-thm
+use Rattle.record.specs.declared.Held.{Held}
+use Rattle.record.specs.DemandRecord.{freshHeld}
+use Rattle.record.proofs.Held as T
+use Rattle.record.proofs.Held.Laws as T′
+use Rattle.record.proofs.fresh_held as g
+use Rattle.record.proofs.fresh_held.Symbol as g-def
+use Rattle.record.proofs.fresh_held.Symbol.{name as #fresh}
+use Rattle.record.proofs.fresh_held.Met as g-thm
 use Rattle.firmware.proofs.in_place.cungkalisa_fresh.Key.{name as #cungkalisa-fresh}
 use Rattle.firmware.proofs.in_place.cungkalisa_fresh as f
 use Rattle.firmware.proofs.in_place.cungkalisa_fresh.Statement as stated
 use Rattle.firmware.proofs.in_place.cungkalisa_fresh.Code as code
 
 abbrev Arg : Type 0
-Arg = RefT State × Unit {0}
+Arg = RefT Held × Unit {0}
 
 abbrev stayed : Stays (f.ended .signature .params) (f.ended .kept)
 stayed = (stay-ref (0 ∷ []) tt (plain (λ _. T.the-row)), tt)
 
-abbrev vals : State → List Val
+abbrev vals : Held → List Val
 vals = LL.vals T.the-type T′.the-laws
 
 module _ {M : Type 1} (𝓤 : URA M) (H : Heap 𝓤) (A : Atoms 𝓤) (at-mem : Memory → SProp 𝓤) (run : Routine → Fun 𝓤) where
   abbrev Fresh : Contract 𝓤
   Fresh = tripleOf 𝓤 H A g.signature (g.spec 𝓤 H A at-mem run)
 
-  fresh-of : (r : State) → ent 𝓤 (ensured 𝓤 H A g.ended (g.clauses 𝓤 H A at-mem run) tt tt tt r) (fact 𝓤 (r ≡ freshRecord))
-  fresh-of r = exE 𝓤 _ (λ ws. snd∗ 𝓤 (sem 𝓤 H A (lasts g.ended tt tt ws)) (fact 𝓤 (r ≡ freshRecord)))
+  fresh-of : (r : Held) → ent 𝓤 (ensured 𝓤 H A g.ended (g.clauses 𝓤 H A at-mem run) tt tt tt r) (fact 𝓤 (r ≡ freshHeld))
+  fresh-of r = exE 𝓤 _ (λ ws. snd∗ 𝓤 (sem 𝓤 H A (lasts g.ended tt tt ws)) (fact 𝓤 (r ≡ freshHeld)))
 
-module _ {M : Type 1} (𝓤 : URA M) (H : Heap 𝓤) (A : Atoms 𝓤) (W : Given 𝓤 H A) (at-mem : Memory → SProp 𝓤) (run : Routine → Fun 𝓤) (κ : Lft) (q : Share) (b o : ℕ) (γ : GName) (h : State) where
+module _ {M : Type 1} (𝓤 : URA M) (H : Heap 𝓤) (A : Atoms 𝓤) (W : Given 𝓤 H A) (at-mem : Memory → SProp 𝓤) (run : Routine → Fun 𝓤) (κ : Lft) (q : Share) (b o : ℕ) (γ : GName) (h : Held) where
   abbrev x : Arg
   x = (record { ptr = (b, o); name = γ; now = h }, tt)
 
@@ -72,7 +72,7 @@ module _ {M : Type 1} (𝓤 : URA M) (H : Heap 𝓤) (A : Atoms 𝓤) (W : Given
   abbrev Post : Val → SProp 𝓤
   Post = walkOf 𝓤 H A f.ended stayed (f.clauses 𝓤 H A at-mem run) .post (((κ, tt), (q, tt), tt, x, at), tt)
 
-  exits : (r : State) → r ≡ freshRecord → ent 𝓤 (sep 𝓤 (A .obs γ (T.the-row .coded .code r)) (sep 𝓤 (A .bor κ (Body (mem T.the-row) b o γ)) (A .lft κ q))) (Post vunit)
+  exits : (r : Held) → r ≡ freshHeld → ent 𝓤 (sep 𝓤 (A .obs γ (T.the-row .coded .code r)) (sep 𝓤 (A .bor κ (Body (mem T.the-row) b o γ)) (A .lft κ q))) (Post vunit)
   exits r e =
       qed W (‵ (fobs γ (T.the-row .coded .code r)) ∷ ‵ (fbor κ (Body (mem T.the-row) b o γ)) ∷ ‵ (flft κ q) ∷ []) ∵
       suffices ! _ (ends-at 𝓤 H A f.ended stayed (f.clauses 𝓤 H A at-mem run) W (((κ, tt), (q, tt), tt, x, at), tt) vunit tt (r, tt) (tt, tt)) $ says ! e $ nothing ! $ move ! (3 ∷ 0 ∷ []) $ join ! $
@@ -95,8 +95,8 @@ module _ {M : Type 1} (𝓤 : URA M) (H : Heap 𝓤) (A : Atoms 𝓤) (W : Given
         -- the fresh record by value
         use0 W (raw (Fresh 𝓤 H A at-mem run .pre to-fresh)) goes-fresh $
         calls-at ! fm (Fresh 𝓤 H A at-mem run) known to-fresh (no-more !) (λ v.
-        use1 W (later (some (λ (r : State). (‵ ftrue ⊛ ‵ (T.the-row .own r (v ∷ []))) ⊛ raw (ensured 𝓤 H A g.ended (g.clauses 𝓤 H A at-mem run) tt tt tt r)))) (id⊢ 𝓤 _) $ await ! tt $ pick ! (λ r.
-        split ! $ move ! (1 ∷ []) $ use1 W (raw (fact 𝓤 (r ≡ freshRecord))) (fresh-of 𝓤 H A at-mem run r) $ heard ! (r ≡ freshRecord) (λ e. split ! $ drop ! $
+        use1 W (later (some (λ (r : Held). (‵ ftrue ⊛ ‵ (T.the-row .own r (v ∷ []))) ⊛ raw (ensured 𝓤 H A g.ended (g.clauses 𝓤 H A at-mem run) tt tt tt r)))) (id⊢ 𝓤 _) $ await ! tt $ pick ! (λ r.
+        split ! $ move ! (1 ∷ []) $ use1 W (raw (fact 𝓤 (r ≡ freshHeld))) (fresh-of 𝓤 H A at-mem run r) $ heard ! (r ≡ freshHeld) (λ e. split ! $ drop ! $
         peeks ! T.the-row (Is T.the-row) (shows 𝓤 H A T.the-row) r (v ∷ []) (λ is.
         land ! (from ! (stop !)) (init ! 1 refl (LL.lawful T.the-type T′.the-laws 𝓤 H A W .typed r _ is .0)) $
         -- stored where the old one lies, and the borrow closed
@@ -126,4 +126,4 @@ cungkalisa-fresh-spec 𝓤 H 𝓜 𝓖 𝓡 =
     entered 𝓤 H (tripleOf 𝓤 H (𝓖 .A) f.signature (f.spec 𝓤 H (𝓖 .A) (𝓜 .mem) (𝓡 .run)))
     (tables 𝓤 H 𝓜 𝓡 code.env .C) (tables 𝓤 H 𝓜 𝓡 code.env .Λ) #cungkalisa-fresh code.function (code.unfolded 𝓤 H 𝓜 𝓡)
     (meets 𝓤 H (𝓖 .A) (givenOf 𝓤 H 𝓜 𝓖) (𝓜 .mem) (𝓡 .run) (tablesOf 𝓤 H 𝓜 (tables 𝓤 H 𝓜 𝓡 code.env))
-    (cited 𝓤 H (Fresh 𝓤 H (𝓖 .A) (𝓜 .mem) (𝓡 .run)) 𝓜 𝓡 code.env #fresh g-def.routine code.calls-record·fresh (g-thm.met 𝓤 H 𝓜 𝓖 𝓡)))
+    (cited 𝓤 H (Fresh 𝓤 H (𝓖 .A) (𝓜 .mem) (𝓡 .run)) 𝓜 𝓡 code.env #fresh g-def.routine code.calls-record·fresh-held (g-thm.met 𝓤 H 𝓜 𝓖 𝓡)))

@@ -1,6 +1,6 @@
--- `refused::unsound`: the record stays.
+-- `refused::unsound`: no task is to run.
+use Rattle.record.specs.StepRecord.{answerFor}
 use Rattle.task_lists.specs.TaskList.{idOf}
-use Rattle.record.specs.StepRecord.{answerFor, stays}
 use borrow.Author.Needs.{needs}
 use Rattle.kernel.proofs.refused.unsound.Statement.{statement}
 use Rattle.kernel.proofs.refused.unsound.Tie as tie
@@ -9,8 +9,8 @@ answer-requires : tie.Need-answer-requires
 answer-requires c κs = search needs
 
 returns : tie.Need-returns
-unfolding stays answerFor idOf
-returns c = rw (c .answer .ensures)
+unfolding answerFor idOf
+returns c = c .answer .ensures
 
 pub unsound-spec : {M : Type 1} → statement M
 unsound-spec = tie.close (tie.spec answer-requires returns)

@@ -1,6 +1,6 @@
 -- `read`: by where the script stands.
 use borrow.Author.Tests.{eq-eqb, ne-eqb}
-use Rattle.words.specs.Reading.{readingFor}
+use Rattle.words.specs.Reading.{readingFor, messageOn}
 use Rattle.script.specs.Session.{stepAt}
 use borrow.Author.Needs.{needs}
 use Rattle.script.proofs.session.read.Statement.{statement}
@@ -13,9 +13,12 @@ returns : tie.Need-returns
 unfolding stepAt
 returns c = rw (eq-eqb _ _ (c .before .if1 .taken)) (c .read-line .ensures)
 
+no-message-requires : tie.Need-no-message-requires
+no-message-requires c κs = search needs
+
 returns-2 : tie.Need-returns-2
-unfolding stepAt readingFor
-returns-2 c = rw (ne-eqb _ _ (c .if1 .left))
+unfolding stepAt readingFor messageOn
+returns-2 c = rw (ne-eqb _ _ (c .before .if1 .left), c .no-message .ensures)
 
 pub read-spec : {M : Type 1} → statement M
-read-spec = tie.close (tie.spec read-line-requires returns returns-2)
+read-spec = tie.close (tie.spec read-line-requires returns no-message-requires returns-2)

@@ -1,4 +1,4 @@
--- `in_three`: the carry keeps its length over the three calls.
+-- `in_three`: lent memory keeps its length over the three calls.
 use mathlib.Core.Path.{_∙_}
 use borrow.Author.Needs.{needs}
 use Rattle.script_check.proofs.stops.in_three.Statement.{statement}
@@ -29,7 +29,13 @@ hand-in-requires-3 : tie.Need-hand-in-requires-3
 hand-in-requires-3 c κs = search needs
 
 same-length : tie.Need-same-length
-same-length c = c .before .before .before .before .hand-in3 .kept .1 .0 ∙ c .before .before .before .before .before .before .before .before .before .before .before .hand-in2 .kept .1 .0 ∙ c .before .before .before .before .before .before .before .before .before .before .before .before .before .before .before .before .before .before .hand-in .kept .1 .0
+same-length c = c .before .before .before .before .before .before .before .before .hand-in3 .kept .1 .0 ∙ c .before .before .before .before .before .before .before .before .before .before .before .before .before .before .before .before .before .before .before .before .before .hand-in2 .kept .1 .0 ∙ c .before .before .before .before .before .before .before .before .before .before .before .before .before .before .before .before .before .before .before .before .before .before .before .before .before .before .before .before .before .before .before .before .before .before .hand-in .kept .1 .0
+
+same-length-2 : tie.Need-same-length-2
+same-length-2 c = c .before .before .before .before .before .before .before .before .hand-in3 .kept .1 .1 .0 ∙ c .before .before .before .before .before .before .before .before .before .before .before .before .before .before .before .before .before .before .before .before .before .hand-in2 .kept .1 .1 .0 ∙ c .before .before .before .before .before .before .before .before .before .before .before .before .before .before .before .before .before .before .before .before .before .before .before .before .before .before .before .before .before .before .before .before .before .before .hand-in .kept .1 .1 .0
+
+same-length-3 : tie.Need-same-length-3
+same-length-3 c = c .before .before .before .before .before .before .before .before .hand-in3 .kept .1 .1 .1 .0 ∙ c .before .before .before .before .before .before .before .before .before .before .before .before .before .before .before .before .before .before .before .before .before .hand-in2 .kept .1 .1 .1 .0 ∙ c .before .before .before .before .before .before .before .before .before .before .before .before .before .before .before .before .before .before .before .before .before .before .before .before .before .before .before .before .before .before .before .before .before .before .hand-in .kept .1 .1 .1 .0
 
 returns : tie.Need-returns
 returns c = search needs
@@ -47,4 +53,6 @@ in-three-spec =
     slice-aggregate-hand-in-3
     hand-in-requires-3
     same-length
+    same-length-2
+    same-length-3
     returns)

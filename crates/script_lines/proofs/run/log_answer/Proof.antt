@@ -6,9 +6,6 @@ use Rattle.script_lines.specs.LineRun.{lineFor}
 use borrow.Author.Needs.{needs}
 use Rattle.script_lines.proofs.run.log_answer.Statement.{statement}
 use Rattle.script_lines.proofs.run.log_answer.Tie as tie
-use Rattle.script_lines.proofs.run.log_answer.Reads as reads
-use Rattle.script_lines.proofs.run.log_answer.Lts as lts
-use Rattle.log_lines.proofs.write_line.Reads as write-line-reads
 
 enum-known-a : tie.Need-enum-known-a
 enum-known-a c = search needs
