@@ -8,7 +8,7 @@ use lib.ListN.{length, List·getD-eq-default}
 use Rattle.record.specs.Whole.{Whole}
 use Rattle.record.specs.SoundRecord.{soundOf}
 use Rattle.record.specs.StepRecord.{After, outOf, stepFor, numberOf, answerFor, stays, standingBy, standingIn}
-use Rattle.record.specs.GoodRecord.{Typed, WordsTyped}
+use Rattle.record.specs.GoodRecord.{Typed}
 use Rattle.record.specs.DemandRecordLaws.{refused-stays}
 use Rattle.record.specs.declared.Answer.{Answer}  -- keep
 use Rattle.record.specs.declared.Request.{Request}  -- keep
@@ -60,10 +60,10 @@ unfolding requestOf
 beyond code a b c h = List·getD-eq-default (byCode a b c) Nothing h
 
 -- demand 1 as C meets it: "Every number but 0 and 1 leaves the state unchanged", whatever code, numbers, message, record, words and block are handed in
-pub refused-leaves : (h : Whole) (x : Asked) (m : List ℕ) → Typed (h .state) → WordsTyped (h .words) → 1 < numberOf (callOf h x m .answer) → callOf h x m .whole ≡ h
+pub refused-leaves : (h : Whole) (x : Asked) (m : List ℕ) → Typed (h .state) → 1 < numberOf (callOf h x m .answer) → callOf h x m .whole ≡ h
 unfolding callOf stays
-refused-leaves h (Step x) m T W n = refused-stays h (stepFor x m) T W n
-refused-leaves h Nothing m T W n = refl
+refused-leaves h (Step x) m T n = refused-stays h (stepFor x m) T n
+refused-leaves h Nothing m T n = refl
 
 -- a code that names no step, on a record that was tested
 pub malformed-call : (sound : Bool) (h : Whole) (m : List ℕ) → sound ≡ soundOf h → (a : Answer) → a ≡ answerFor 14 0 (standingBy sound (h .state))

@@ -5,16 +5,14 @@ use mathlib.Core.List.{List}
 use mathlib.Core.Bool.{true}
 use mathlib.Core.Logic.{inl, inr}
 use mathlib.Core.Option.{Option, none, some}
-use Prim.Native.Nat.{ℕ, zero, suc, _≤_, _<_}
+use Prim.Native.Nat.{ℕ, _≤_, _<_}
 use native.Mathlib.Omega.{arith}
 use native.Mathlib.Decide.{decLt}
-use lib.Dec.{eqb}
 use lib.ListN.{getD}
 use borrow.Author.Tests.{eqb-true, eq-eqb}
 use Rattle.lists.specs.Test.{allb, holds}
 use Rattle.lists.specs.Table.{filled}
 use Rattle.lists.specs.TestLaws.{none-some, and-l, and-r, true-and, all-true, true-all, same-test}
-use Rattle.lists.specs.TableLaws.{getD-filled}
 use Rattle.chains.specs.Chain.{end, endsb}
 use Rattle.chains.specs.Least.{least, Recursive}
 use Rattle.chains.specs.ChainLaws.{chain-short, true-ends}

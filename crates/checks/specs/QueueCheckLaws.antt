@@ -1,27 +1,22 @@
 -- The code's own test of queues and held words: of a tidy record, it says the same as the rules' test of the view, whatever words the block has.
 use mathlib.Core.Path.{_≡_, refl, ap, sym, _∙_}
 use mathlib.Core.List.{List, []}
-use mathlib.Core.Bool.{Bool, true, false, cond, not}
-use mathlib.Core.Logic.{_⊎_, inl, inr}
-use mathlib.Core.Option.{Option}
+use mathlib.Core.Bool.{Bool, true}
+use mathlib.Core.Logic.{inl, inr}
 use Prim.Native.Nat.{ℕ, _+_, _*_, _/_, _%_, _≤_, _<_}
 use native.Mathlib.Omega.{arith}
 use native.Mathlib.Decide.{decLt}
 use lib.Dec.{ltb, leb, eqb}
-use lib.ListN.{length, getD, take, drop}
-use lib.Seq.{getD-take, getD-drop}
-use borrow.Author.Tests.{ltb-true, leb-true, eqb-true, lt-ltb, le-ltb, le-leb, eq-eqb}
+use lib.ListN.{length, getD}
+use borrow.Author.Tests.{ltb-true, leb-true, lt-ltb, le-ltb, le-leb, eq-eqb}
 use Rattle.lists.specs.Test.{_and_, _or_, allb}
-use Rattle.lists.specs.TestLaws.{and-l, and-r, true-and, or-true, or-l, or-r, all-true, true-all, same-test, all-same, all-used, all-and}
+use Rattle.lists.specs.TestLaws.{and-l, and-r, true-and, or-true, or-r, all-true, true-all, same-test, all-same, all-used}
 use Rattle.lists.specs.TableLaws.{getD-filled}
 use Rattle.rules.specs.Sizes.{taskPlaces, maxQueues, heldWords}
 use Rattle.rules.specs.Tables.{taskCount, queueCount, wordsOf, widthOf, depthOf, queueOwnerOf, messagesOf, takenBy, spaceTaken}
 use Rattle.rules.specs.Sound.{isWidth, isDepth, messagesb, queueb, queuesb, wordsb, pastb, existsb}
-use Rattle.rules.specs.SoundLaws.{depth-true}
 use Rattle.rules.specs.QueueLaws.{width-range}
-use Rattle.task_lists.specs.TaskList.{noId}
-use Rattle.walks.specs.Walk.{taskAt}
-use Rattle.rings.specs.Ring.{message, messages, Sits}
+use Rattle.rings.specs.Ring.{message, Sits}
 use Rattle.rings.specs.RingLaws.{length-message}
 use Rattle.rings.specs.Starts.{startOf, atMostAll, startIn}
 use Rattle.rings.specs.StartsLaws.{start-same, start-behind, at-most-below, at-most-all}
@@ -31,7 +26,7 @@ use Rattle.record.specs.Whole.{whole}
 use Rattle.record.specs.SoundRecord.{tidyb, wordsTidyb}
 use Rattle.record.specs.GoodRecord.{Typed, WordsTyped}
 use Rattle.record.specs.TidyLaws.{tasks-fit, queues-fit, used-queue, unused-queue}
-use Rattle.record.specs.ViewLaws.{view-tasks, view-queues, view-widths, view-depths, view-width, view-depth, view-messages, view-used, view-words, view-queue-owner}
+use Rattle.record.specs.ViewLaws.{view-tasks, view-queues, view-width, view-depth, view-messages, view-used, view-words, view-queue-owner}
 use Rattle.record.specs.StandsLaws.{taken-start}
 use Rattle.checks.specs.Checks.{queueFits, queueFitsAt, queuesIn, unusedAt}
 use Rattle.checks.specs.TableCheckLaws.{exists-id, queue-id, queue-owner-any, past-same}

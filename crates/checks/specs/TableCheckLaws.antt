@@ -18,7 +18,7 @@ use Rattle.lists.specs.TestLaws.{which, and-l, and-r, true-and, or-true, same-t
 use Rattle.lists.specs.TableLaws.{read-any}
 use Rattle.rules.specs.Sizes.{heldWords, onSend, onReceive, taskPlaces, maxMutexes, maxSemaphores, maxQueues, levels, kinds, maxTicks, onMutex, onSemaphore, onTime}
 use Rattle.rules.specs.Tables.{queueCount, wordsOf, widthOf, depthOf, queueOwnerOf, messagesOf, awaitedKind, Tables, taskCount, mutexCount, semCount, priorityOf, kindOf, ownerOf, countOf, waitOf}
-use Rattle.rules.specs.Sound.{isOwn, pastb, suitsb, queuedb, queueWaitsb, unavailableb, leftb, blockedb, timedb, waitersb, timesb, existsb, ownersb, countsb, outcomeb, outcomesb}
+use Rattle.rules.specs.Sound.{isOwn, pastb, suitsb, queuedb, queueWaitsb, unavailableb, leftb, blockedb, timedb, waitersb, timesb, existsb, countsb, outcomeb, outcomesb}
 use Rattle.task_lists.specs.TaskList.{places, noId, items, keyOf, idFitsAt}
 use Rattle.task_lists.specs.TaskListLaws.{ids-fit}
 use Rattle.walks.specs.Walk.{taskAt}

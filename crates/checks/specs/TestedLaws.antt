@@ -13,7 +13,7 @@ use Rattle.lists.specs.Test.{_and_, _or_, allb}
 use Rattle.lists.specs.Table.{filled}
 use Rattle.lists.specs.TestLaws.{which, or-none, all-true, all-same, all-and}
 use Rattle.lists.specs.TableLaws.{read-any, getD-filled}
-use Rattle.rules.specs.Sizes.{taskPlaces, maxMutexes, maxSemaphores, levels, onMutex, onSemaphore, onSend}
+use Rattle.rules.specs.Sizes.{taskPlaces, maxMutexes, maxSemaphores, levels, onMutex, onSemaphore}
 use Rattle.task_lists.specs.TaskList.{noId, usedPlaces, idFits, idFitsAt, idFitsBy}
 use Rattle.task_lists.specs.TaskListLaws.{used-flag}
 use Rattle.walks.specs.Walk.{lent, lentBy}

@@ -3,9 +3,8 @@ pub mod refused;
 
 ghost use mathlib.Core.Path.{_≡_};
 ghost use Rattle.record.specs.Whole.{whole};
-ghost use Rattle.moves.specs.declared.Move.the-variants.{Nothing};
 ghost use Rattle.record.specs.StepRecord.{stepOf, outOf};
-ghost use Rattle.kernel.specs.Planning.{formedBy, Gives};
+ghost use Rattle.kernel.specs.Planning.{formedBy, unmoved, planned};
 use moves::Move;
 use record::Answer;
 use record::EIGHT;
@@ -29,7 +28,7 @@ pub fn is_formed(x: Request, count: usize) -> bool
 
 // A refusal: the record stays, and nothing is moved.
 pub fn stay(s: State, a: Answer) -> Plan
-    ensures { λ r. ⌜ r ≡ record { state = s; answer = a; moves = Nothing } ⌝ }
+    ensures { λ r. ⌜ r ≡ unmoved s a ⌝ }
 {
     Plan {
         state: s,
@@ -40,26 +39,17 @@ pub fn stay(s: State, a: Answer) -> Plan
 
 // A request on a record that was tested before, `sound` being what the test said: 14, 15, or its step, before any word is moved. The message beside it
 // has `count` words, the lent block `space`.
-pub fn plan(s: State, sound: bool, x: Request, count: usize, space: usize, words: &[u32]) -> Plan
-    ensures { λ r. ⌜ Gives sound s (now (words .entry)) space x count r ⌝ }
+fn plan(s: State, sound: bool, x: Request, count: usize, space: usize, words: &[u32]) -> Plan
+    ensures { λ r. ⌜ r ≡ planned sound s x count space (now (words .entry)) ⌝ }
 {
     if !is_formed(x, count) {
-        let a = refused::malformed(s, sound);
-        return Plan {
-            state: s,
-            answer: a,
-            moves: Move::Nothing,
-        };
+        let no_message = refused::malformed(s, sound);
+        return stay(s, no_message);
     }
     if sound {
         return steps::perform(s, x, count, space, words);
     }
-    let a = refused::unsound();
-    Plan {
-        state: s,
-        answer: a,
-        moves: Move::Nothing,
-    }
+    stay(s, refused::unsound())
 }
 
 // The step: for any record with its words and block, any request and any message, what the rules answer; 15 with no task to run where the record isn't

@@ -36,9 +36,9 @@ use Rattle.record.specs.PackLaws.{levelColumn, packWith}
 use Rattle.record.specs.ColumnLaws.{chosen, map-set, wait-code}
 use Rattle.machine.specs.FlagLaws.{Flags, flag-one, flag-zero, flagged-column}
 use Rattle.record.specs.declared.Tasks.{Tasks}  -- keep
-use Rattle.record.specs.Setters.{putWaiting, putClock, putMutexes, putSemaphores, putRunning}  -- keep
-use Rattle.rules.specs.State.{State as Model, levelOf, placed, withTables, withClock}  -- keep
-use Rattle.rules.specs.Tables.{awaitedKind, awaitedObject, Tables, Wait, Awaited, mutexOf, semOf, time, taskCount, mutexCount, semCount, priorityOf, outcomeOf, waitOf, kindOf, ownerOf, countOf, maximumOf, ticksOf, waitFor}  -- keep
+use Rattle.record.specs.Setters.{putWaiting, putRunning}  -- keep
+use Rattle.rules.specs.State.{State as Model, placed, withTables}  -- keep
+use Rattle.rules.specs.Tables.{awaitedKind, awaitedObject, Tables, Wait, Awaited, taskCount, outcomeOf, waitOf, ticksOf, waitFor}  -- keep
 
 -- the columns that waits change
 abbrev columns : Tasks → List ℕ → List ℕ → List ℕ → List ℕ → List ℕ → Tasks

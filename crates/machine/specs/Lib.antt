@@ -10,7 +10,6 @@ pub mod ObjectLaws
 pub mod QueueObjectLaws
 pub mod PartLaws
 pub mod TimedLaws
-pub mod QueuePartLaws
 pub mod RowLaws
 pub mod FinishLaws
 pub mod PlainStepLaws

@@ -229,7 +229,7 @@ placeAt x q k = startIn (x .width) (x .depth) q + widthAt x q * slotOf (oldestAt
 
 -- the ring place behind q's oldest one
 abbrev pub nextOldest : Queues → ℕ → ℕ
-nextOldest x q = slotOf (oldestAt x q) (depthAt x q) 1
+nextOldest x q = cond (ltb (oldestAt x q + 1) (depthAt x q)) (oldestAt x q + 1) 0
 
 -- the answer of a step, with the running task of the record that it hands back, and what is to be moved
 abbrev pub answerMoving : State → ℕ → ℕ → Move → Plan
@@ -432,9 +432,9 @@ delivered k q w =
 
 abbrev pub sendOn : State → ℕ → ℕ → Plan
 sendOn k q t =
-    cond (eqb (usedAt (k .queues) q) (depthAt (k .queues) q))
-    (cond (eqb (queueOwnerAt (k .queues) q) (k .running)) (answerIn k 9 0) (sendWaits k q t))
+    cond (ltb (usedAt (k .queues) q) (depthAt (k .queues) q))
     (delivered k q (bestAt k onReceive q))
+    (cond (eqb (queueOwnerAt (k .queues) q) (k .running)) (answerIn k 9 0) (sendWaits k q t))
 
 unfoldable pub sendStep : State → ℕ → ℕ → ℕ → Plan
 sendStep k q t count = calledBy k

@@ -1,17 +1,15 @@
 -- Every step of the machine on a sound record, once its words are moved, is what the step is defined to give.
-use mathlib.Core.Path.{_≡_, refl, ap, sym, _∙_, subst}
+use mathlib.Core.Path.{_≡_, refl, sym, _∙_, subst}
 use mathlib.Core.List.{List, [], _∷_}
 use mathlib.Core.Bool.{true, false}
 use mathlib.Core.Logic.{inl, inr}
 use mathlib.Core.Option.{Option, none, some}
-use Prim.Native.Nat.{ℕ, _≤_, _<_}
-use native.Mathlib.Omega.{arith}
-use native.Mathlib.Decide.{decLt}
-use lib.ListN.{length, List·getD-eq-default}
-use borrow.Author.Tests.{ltb-true, leb-false, eqb-true, not-false}
+use Prim.Native.Nat.{ℕ, _<_}
+use lib.ListN.{length}
+use borrow.Author.Tests.{leb-false, eqb-true, not-false}
 use Rattle.lists.specs.Test.{someb}
-use Rattle.lists.specs.TestLaws.{which, and-r, or-none, some-true}
-use Rattle.rules.specs.Sizes.{maxTasks, maxQueues}
+use Rattle.lists.specs.TestLaws.{which, or-none, some-true}
+use Rattle.rules.specs.Sizes.{maxTasks}
 use Rattle.rules.specs.Tables.{roomIn, messageIn, taskCount, queueCount, widthOf, messagesOf}
 use Rattle.rules.specs.Levels.{bestWaiter}
 use Rattle.rules.specs.Step.{task, mutex, sem, start, lock, unlock, pend, post, flush, sleep, yield, hold, free, tick, level, outcome, queue, send, receive, word}
@@ -24,15 +22,12 @@ use Rattle.record.specs.Whole.{Whole}
 use Rattle.record.specs.Layout.{Stands, packed}
 use Rattle.record.specs.SoundRecord.{soundOf}
 use Rattle.record.specs.StepRecord.{stepFor, oldestFor, blockFor, After, afterFor, stepOf}
-use Rattle.record.specs.GoodRecord.{Typed, WordsTyped}
-use Rattle.record.specs.SoundPackLaws.{sound-view, sound-tidy}
-use Rattle.record.specs.TidyLaws.{used-queue, unused-queue}
-use Rattle.record.specs.ViewLaws.{view-queues, view-depth, view-used}
+use Rattle.record.specs.GoodRecord.{Typed}
+use Rattle.record.specs.SoundPackLaws.{sound-view}
 use Rattle.record.specs.WordsPackLaws.{words-added}
 use Rattle.record.specs.StepStandsLaws.{oldest-back}
 use Rattle.record.specs.DemandRecordLaws.{whole-pack, view-stands, step-of-sound}
-use Rattle.machine.specs.Machine.{depthAt, usedAt, machineStep}
-use Rattle.machine.specs.QueuePartLaws.{Rings}
+use Rattle.machine.specs.Machine.{machineStep}
 use Rattle.machine.specs.Planned.{carried}
 use Rattle.machine.specs.PlainStepLaws.{level-step-pack, outcome-pack, hold-pack, free-pack, start-pack, yield-pack, mutex-pack, sem-pack, task-pack}
 use Rattle.machine.specs.WaitStepLaws.{sleep-pack, pend-pack, post-pack, flush-pack}
@@ -41,7 +36,7 @@ use Rattle.machine.specs.TickStepLaws.{tick-pack}
 use Rattle.machine.specs.SendStepLaws.{full-pack, tail-pack, handed-pack}
 use Rattle.machine.specs.ReceiveStepLaws.{empty-pack, took-pack, swapped-pack}
 use Rattle.machine.specs.QueueSetUpLaws.{word-pack, queue-pack, owned-queue-pack}
-use Rattle.machine.specs.PerformLaws.{isQuiet, Good, carried-ruled, carried-still, carried-quiet, queue-good, full-good, tail-good, handed-good, empty-good, took-good, swapped-good}
+use Rattle.machine.specs.PerformLaws.{isQuiet, carried-ruled, carried-still, carried-quiet, queue-good, full-good, tail-good, handed-good, empty-good, took-good, swapped-good}
 use Rattle.record.specs.declared.Request.{Request}  -- keep
 use Rattle.record.specs.declared.Request.the-variants.{Task, Mutex, Sem, Start, Lock, Unlock, Pend, Post, Flush, Sleep, Yield, Hold, Free, Tick, Level, Outcome, Queue, OwnedQueue, Send, Receive, Word}  -- keep
 use Rattle.rules.specs.State.{State as Model}  -- keep
@@ -89,9 +84,9 @@ module _ (s : Model) (I : Inv s) (os b : List ℕ) (S : Stands os b (s .tables .
         → gives (Receive q t) m ≡ afterFor (packed os b s) (receive q t) (stepSound s (receive q t))
     unfolding machineStep
     receive-carried [] e o best = carried-ruled s I os b S os _ (receive q t) m (empty-pack os s I q t e) (λ f. received-by f (λ low r run. empty-good s I os b S q low t m r run e))
-    receive-carried (n ∷ ms) e none best = carried-ruled s I os b S _ _ (receive q t) m (took-pack os s I q t n ms e (S .oldest-column) best)
+    receive-carried (n ∷ ms) e none best = carried-ruled s I os b S _ _ (receive q t) m (took-pack os s I q t n ms e (S .oldest-column) (S .in-ring q) best)
         (λ f. received-by f (λ low r run. took-good s I os b S q low t m r run n ms e best))
-    receive-carried (n ∷ ms) e (some w) best = carried-ruled s I os b S _ _ (receive q t) m (swapped-pack os s I q t n ms e (S .oldest-column) w best)
+    receive-carried (n ∷ ms) e (some w) best = carried-ruled s I os b S _ _ (receive q t) m (swapped-pack os s I q t n ms e (S .oldest-column) (S .in-ring q) w best)
         (λ f. received-by f (λ low r run. swapped-good s I os b S q low t m r run n ms e w best))
 
   added : (p : ℕ) → firstRow (refusals s (task p)) ≡ none → packWords ((effect s (task p)) .state .tables) ≡ packWords (s .tables)
@@ -123,30 +118,7 @@ module _ (s : Model) (I : Inv s) (os b : List ℕ) (S : Stands os b (s .tables .
   step-carried (Word i j) m = carried-quiet s I os b S (word i j) m refl (λ n. (oldest-back s I os b S, refl)) (word-pack os s I i j)
 
 -- so on every sound record the machine, once its words are moved, gives what `step` is defined to give
-pub sound-step : (h : Whole) → Typed (h .state) → WordsTyped (h .words) → soundOf h ≡ true → (x : Request) (m : List ℕ) → isFormed (stepFor x m) ≡ true
+pub sound-step : (h : Whole) → Typed (h .state) → soundOf h ≡ true → (x : Request) (m : List ℕ) → isFormed (stepFor x m) ≡ true
     → carried h m (machineStep (h .state) x (length m) (length (h .block)) (h .words)) ≡ stepOf h x m
-sound-step h T W sound x m formed = subst (λ z. carried z m (machineStep (z .state) x (length m) (length (z .block)) (z .words)) ≡ afterFor z (stepFor x m) (stepSound (view h) (stepFor x m))) (whole-pack h T W sound)
-    (step-carried (view h) (sound-view h sound) (oldestIn (h .state .queues)) (h .block) (view-stands h T W sound) x m) ∙ sym (step-of-sound h T W sound (stepFor x m) formed)
-
--- the numbers of a sound record's queues are what the steps on them need
-module _ (h : Whole) (T : Typed (h .state)) (sound : soundOf h ≡ true) where
-  none-there : (q : ℕ) → h .state .queues .n ≤ q → usedAt (h .state .queues) q ≡ 0
-  none-there q l = elim (decLt q maxQueues) [
-    | yes i ↦ unused-queue (h .state) (sound-tidy h sound) q l i .no-used
-    | no i ↦ List·getD-eq-default (h .state .queues .used) 0 (omega (arith, T .used-length))
-  ]
-
-  room-in : (q : ℕ) → usedAt (h .state .queues) q ≤ depthAt (h .state .queues) q
-  unfolding view
-  room-in q = elim (decLt q (h .state .queues .n)) [
-    | yes l ↦ omega (
-      arith,
-      sound-view h sound .facts .queues q (omega (arith, view-queues (h .state) (h .words) (h .block) T (sound-tidy h sound))) .room,
-      view-used (h .state) (h .words) (h .block) T (sound-tidy h sound) q l,
-      view-depth (h .state) (h .words) (h .block) T (sound-tidy h sound) q l,
-    )
-    | no l ↦ omega (arith, none-there q (omega arith))
-  ]
-
-  pub sound-rings : Rings (h .state .queues)
-  sound-rings = record { used-in = room-in; oldest-in = λ q l. ltb-true _ _ (and-r _ _ (used-queue (h .state) (sound-tidy h sound) q l)) }
+sound-step h T sound x m formed = subst (λ z. carried z m (machineStep (z .state) x (length m) (length (z .block)) (z .words)) ≡ afterFor z (stepFor x m) (stepSound (view h) (stepFor x m))) (whole-pack h T sound)
+    (step-carried (view h) (sound-view h sound) (oldestIn (h .state .queues)) (h .block) (view-stands h T sound) x m) ∙ sym (step-of-sound h T sound (stepFor x m) formed)

@@ -26,7 +26,7 @@ use Rattle.record.specs.Record.{kindCode, objectCode, timedCode, dueCode, packT
 use Rattle.machine.specs.Machine.{ownerSet, countSet, taskAdded, mutexAdded, semAdded}
 use Rattle.record.specs.PackLaws.{same-tasks, same-mutexes, same-semaphores}
 use Rattle.record.specs.ColumnLaws.{chosen, pad-default, map-set, map-snoc}
-use Rattle.rules.specs.Tables.{Awaited, mutexOf, semOf, roomIn, messageIn, time, Wait, TaskTable, SemTable, Tables, withTasks, withSemaphores, taskCount, mutexCount, semCount, priorityOf, waitOf, ownerOf, kindOf}  -- keep
+use Rattle.rules.specs.Tables.{Awaited, mutexOf, semOf, roomIn, messageIn, time, Wait, TaskTable, SemTable, Tables, withTasks, withSemaphores, taskCount, mutexCount, semCount, priorityOf, waitOf}  -- keep
 
 module _ (t : Tables) (F : Facts t) where
   pub owner-set : (m : ℕ) (o : Option ℕ) → m < mutexCount t → ownerSet (packMutexes t) m (idOf o) ≡ packMutexes (give t m o)

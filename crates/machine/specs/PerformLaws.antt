@@ -1,46 +1,44 @@
 -- What comes of each plan once its words are moved: on a packed sound state, with a block that holds its messages, what the step is defined to give.
 use mathlib.Core.Path.{_≡_, refl, ap, sym, _∙_}
 use mathlib.Core.List.{List, [], _∷_, _++_}
-use mathlib.Core.Bool.{Bool, true, false, cond}
-use mathlib.Core.Logic.{inl, inr}
+use mathlib.Core.Bool.{Bool, true, false}
 use mathlib.Core.Option.{Option, none, some}
 use Prim.Native.Nat.{ℕ, _+_, _*_, _≤_, _<_}
 use native.Mathlib.Omega.{arith}
 use lib.Dec.{eqb}
 use lib.ListN.{length, getD, set, take}
-use borrow.Author.Tests.{leb-false, eqb-true, ne-eqb, not-false}
-use Rattle.lists.specs.TestLaws.{clash, by-test, or-none}
-use Rattle.rules.specs.Sizes.{taskPlaces, maxTasks, heldWords}
-use Rattle.rules.specs.Tables.{QueueTable, Tables, mutexOf, semOf, roomIn, messageIn, taskCount, queueCount, waitOf, wordsOf, ownerOf, widthOf, depthOf, messagesOf}
+use borrow.Author.Tests.{ne-eqb}
+use Rattle.lists.specs.TestLaws.{clash, by-test}
+use Rattle.rules.specs.Sizes.{heldWords}
+use Rattle.rules.specs.Tables.{QueueTable, Tables, mutexOf, semOf, roomIn, messageIn, taskCount, queueCount, waitOf, ownerOf, widthOf, depthOf, messagesOf}
 use Rattle.rules.specs.Levels.{linksOf, bestWaiter}
 use Rattle.rules.specs.Step.{Step, task, mutex, sem, start, lock, unlock, pend, post, flush, sleep, yield, hold, free, tick, level, outcome, queue, send, receive, word}
-use Rattle.rules.specs.Effect.{Effect, hands, callerWaits, lockBy, passOn, pendBy, credit, flushOf, deliver, sendBy, sentBy, takeIn, receiveBy, tickOf, yieldBy, called, effect}
-use Rattle.rules.specs.Settle.{finish}
+use Rattle.rules.specs.Effect.{Effect, hands, callerWaits, lockBy, passOn, pendBy, credit, flushOf, deliver, sendBy, sentBy, takeIn, receiveBy, tickOf, yieldBy, effect}
 use Rattle.rules.specs.Refusal.{Row, noCredit, noRoom, refusals, firstRow}
 use Rattle.rules.specs.Sound.{waitCount}
 use Rattle.rules.specs.Invariant.{Inv}
 use Rattle.rules.specs.QueueLaws.{width-range}
-use Rattle.rules.specs.MessageLaws.{oldest-wide, sender-in, sender-full}
+use Rattle.rules.specs.MessageLaws.{oldest-wide, sender-in}
 use Rattle.rules.specs.WaiterLaws.{awaits-waits, wait-in, best-waits}
-use Rattle.rules.specs.StepLaws.{passed, called-by, caller-in, caller-idle}
+use Rattle.rules.specs.StepLaws.{caller-in, caller-idle}
 use Rattle.rules.specs.RefusalLaws.{refused-number, refused-above, caller-by}
 use Rattle.rules.specs.OutcomeLaws.{finish-tables}
 use Rattle.task_lists.specs.TaskList.{idOf}
 use Rattle.rings.specs.Words.{words, laid}
-use Rattle.rings.specs.Ring.{slotOf, spot, message}
+use Rattle.rings.specs.Ring.{slotOf, spot}
 use Rattle.rings.specs.RingLaws.{spot-in}
 use Rattle.rings.specs.TakeLaws.{take-first}
 use Rattle.rings.specs.Held.{held}
 use Rattle.rings.specs.HeldLaws.{held-front}
-use Rattle.moves.specs.Fits.{Holds, Takes, Swaps}
+use Rattle.moves.specs.Fits.{Holds, Swaps}
 use Rattle.moves.specs.MovesLaws.{hold-moves, queue-moves, take-moves, swap-moves}
 use Rattle.moves.specs.Moves.{wordsAfter, blockAfter}
-use Rattle.record.specs.Record.{viewTables, packQueues, pack, packWords}
-use Rattle.record.specs.Whole.{Whole, whole}
+use Rattle.record.specs.Record.{packQueues, pack, packWords}
+use Rattle.record.specs.Whole.{Whole}
 use Rattle.record.specs.Layout.{ringOf, Stands, packed}
-use Rattle.record.specs.StepRecord.{oldestFor, blockSent, blockTaken, blockFor, After, afterFor}
+use Rattle.record.specs.StepRecord.{oldestFor, blockSent, blockTaken, blockFor, afterFor}
 use Rattle.record.specs.ReadLaws.{used-read}
-use Rattle.record.specs.WordsPackLaws.{words-typed, held-packed, hold-packed, words-added}
+use Rattle.record.specs.WordsPackLaws.{words-typed, held-packed, hold-packed}
 use Rattle.record.specs.StandsLaws.{sits}
 use Rattle.record.specs.StepStandsLaws.{oldest-back, view-back, spot-back, turn-back, refused-same}
 use Rattle.machine.specs.Planned.{planFor, carried}
@@ -51,7 +49,7 @@ use Rattle.moves.specs.declared.Move.{Move}  -- keep
 use Rattle.moves.specs.declared.Move.the-variants.{Nothing, Hold as HoldWords, Queue as QueueWords, Take, Swap}  -- keep
 use Rattle.record.specs.declared.Plan.{Plan}  -- keep
 use Rattle.rules.specs.State.{State as Model, withTables}  -- keep
-use Rattle.rules.specs.Answer.{Answer as Ruled, answered, decide, stepSound}  -- keep
+use Rattle.rules.specs.Answer.{decide, stepSound}  -- keep
 
 -- steps that leave the words held as they are
 unfoldable pub isQuiet : Step → Bool

@@ -39,7 +39,7 @@ use Rattle.machine.specs.RowLaws.{still, by-rows, on-row, on-accept, hel
 use Rattle.machine.specs.FinishLaws.{dispatch-still, quiet-pack, lined-finish, unchanged-finish}
 use Rattle.record.specs.Setters.{putReady, putRunning, putMutexes, putSemaphores, putTasks}  -- keep
 use Rattle.rules.specs.State.{State as Model, levelOf, placed, withTables}  -- keep
-use Rattle.rules.specs.State.{withHold, withClock, withStarted}  -- keep
+use Rattle.rules.specs.State.{withHold, withStarted}  -- keep
 use Rattle.rules.specs.Tables.{Tables, taskCount, mutexCount, semCount, outcomeOf, waitOf}  -- keep
 use Rattle.rules.specs.Answer.{stepSound}  -- keep
 

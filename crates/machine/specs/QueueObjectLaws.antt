@@ -1,18 +1,19 @@
 -- Queues of the packed tables, made and changed, and what is read of them.
 use mathlib.Core.Path.{_≡_, refl, ap, sym, _∙_}
 use mathlib.Core.List.{List, [], _∷_, _++_, map}
-use mathlib.Core.Bool.{Bool, true, false, cond, not}
+use mathlib.Core.Bool.{cond}
 use mathlib.Core.Logic.{inl, inr}
-use mathlib.Core.Option.{Option, none, some}
-use Prim.Native.Nat.{ℕ, suc, _+_, _-_, _*_, _≤_, _<_}
+use mathlib.Core.Option.{Option}
+use Prim.Native.Nat.{ℕ, _+_, _≤_, _<_}
 use native.Mathlib.Omega.{arith}
 use native.Mathlib.Decide.{decLt}
-use lib.Dec.{eqb}
-use lib.ListN.{length, getD, set, length-map, length-set, length-append}
+use lib.Dec.{ltb}
+use lib.ListN.{length, getD, set, length-map, length-append}
 use lib.Seq.{map-set-same}
-use borrow.Author.Tests.{lt-ltb}
+use borrow.Author.Tests.{lt-ltb, ltb-false}
+use Rattle.lists.specs.TestLaws.{which}
 use Rattle.lists.specs.Table.{pad}
-use Rattle.lists.specs.TableLaws.{pad-set, pad-snoc, getD-pad, length-snoc}
+use Rattle.lists.specs.TableLaws.{pad-set, pad-snoc, getD-pad}
 use Rattle.rules.specs.Sizes.{maxQueues}
 use Rattle.rules.specs.Tables.{Tables, queueCount, messagesOf, spaceTaken}
 use Rattle.rules.specs.Effect.{setMessages, addQueue}
@@ -23,11 +24,19 @@ use Rattle.rings.specs.Starts.{startOf, startIn}
 use Rattle.rings.specs.StartsLaws.{start-same, at-most-below, at-most-all}
 use Rattle.record.specs.Record.{packQueues}
 use Rattle.record.specs.Layout.{ringOf}
-use Rattle.record.specs.ReadLaws.{width-read, depth-read, oldest-read, used-read}
+use Rattle.record.specs.ReadLaws.{width-read, depth-read, oldest-read}
 use Rattle.record.specs.StandsLaws.{taken-start}
 use Rattle.record.specs.ColumnLaws.{chosen, pad-default, map-set, map-snoc}
 use Rattle.record.specs.PackLaws.{same-queues}
-use Rattle.machine.specs.Machine.{queueAdded, usedSet, oldestSet, widthAt, placeAt, nextOldest}
+use Rattle.machine.specs.Machine.{queueAdded, usedSet, oldestSet, placeAt, nextOldest}
+
+-- the ring place behind one of the ring
+next-slot : (oldest depth : ℕ) → oldest < depth → cond (ltb (oldest + 1) depth) (oldest + 1) 0 ≡ slotOf oldest depth 1
+unfolding slotOf
+next-slot oldest depth h = elim (which (ltb (oldest + 1) depth)) [
+  | inl e ↦ rw e refl
+  | inr e ↦ rw e (omega (arith, ltb-false (oldest + 1) depth e))
+]
 
 module _ (t : Tables) (F : Facts t) (o : List ℕ) where
   -- the first word behind the first n queues
@@ -49,8 +58,8 @@ module _ (t : Tables) (F : Facts t) (o : List ℕ) where
   pub place-packed : (q k : ℕ) → q < queueCount t → placeAt (packQueues o (t .queues)) q k ≡ spot (ringOf o (t .queues) q) k
   place-packed q k h = rw (start-packed q (omega (arith, F .few-queues)), width-read t o q, oldest-read t o q, depth-read t o q) refl
 
-  pub next-packed : (q : ℕ) → nextOldest (packQueues o (t .queues)) q ≡ slotOf (getD o q 0) (getD (t .queues .depths) q 0) 1
-  next-packed q = rw (oldest-read t o q, depth-read t o q) refl
+  pub next-packed : (q : ℕ) → getD o q 0 < getD (t .queues .depths) q 0 → nextOldest (packQueues o (t .queues)) q ≡ slotOf (getD o q 0) (getD (t .queues .depths) q 0) 1
+  next-packed q in-ring = rw (oldest-read t o q, depth-read t o q) (next-slot (getD o q 0) (getD (t .queues .depths) q 0) in-ring)
 
   -- a queue gets other messages
   pub used-set : (q : ℕ) (ms : List (List ℕ)) → q < queueCount t → usedSet (packQueues o (t .queues)) q (length ms) ≡ packQueues o (setMessages t q ms .queues)

@@ -1,31 +1,28 @@
 -- A queue made, and a word read, on a packed sound state: the packed rule.
 use mathlib.Core.Path.{_≡_, refl, ap, sym, _∙_}
 use mathlib.Core.List.{List, [], _∷_, _++_}
-use mathlib.Core.Bool.{Bool, true, false, cond, not}
-use mathlib.Core.Logic.{inl, inr}
+use mathlib.Core.Bool.{true, false, cond, not}
 use mathlib.Core.Option.{Option, none, some}
-use Prim.Native.Nat.{ℕ, _+_, _*_, _≤_, _<_}
+use Prim.Native.Nat.{ℕ, _+_, _*_}
 use native.Mathlib.Omega.{arith}
 use native.Mathlib.Decide.{decLt}
-use lib.Dec.{ltb, leb, eqb}
+use lib.Dec.{ltb, leb}
 use lib.ListN.{length, getD}
 use borrow.Author.Tests.{leb-false, ltb-false, not-true, not-false, lt-ltb, le-ltb, le-leb, lt-leb}
 use Rattle.lists.specs.Test.{_and_, _or_}
 use Rattle.lists.specs.TestLaws.{clash, and-l, and-r, or-none}
-use Rattle.rules.specs.Sizes.{maxQueues, maxDepth, heldWords}
+use Rattle.rules.specs.Sizes.{maxQueues, heldWords}
 use Rattle.rules.specs.Tables.{QueueTable, taskCount, queueCount, waitOf, wordsOf, spaceTaken}
-use Rattle.rules.specs.Levels.{levelIn}
 use Rattle.rules.specs.Step.{Step, queue, word}
 use Rattle.rules.specs.Effect.{done, addQueue, effect}
-use Rattle.rules.specs.Settle.{settle, dispatch}
-use Rattle.rules.specs.Refusal.{Row, _when_, noSuchTask, refusals}
+use Rattle.rules.specs.Refusal.{Row, _when_, refusals}
 use Rattle.rules.specs.Sound.{isWidth, isDepth, existsb}
 use Rattle.rules.specs.Invariant.{Inv}
 use Rattle.rules.specs.SoundLaws.{depth-true, exists-true}
 use Rattle.rules.specs.CreationLaws.{facts-addQueue}
 use Rattle.rules.specs.WaiterLaws.{wait-none}
 use Rattle.rules.specs.Answer.{stepSound}
-use Rattle.task_lists.specs.TaskList.{noId, idOf}
+use Rattle.task_lists.specs.TaskList.{idOf}
 use Rattle.record.specs.Record.{packTasks, packMutexes, packSemaphores, packQueues, pack, packWords}
 use Rattle.record.specs.PackLaws.{levelColumn, packWith}
 use Rattle.record.specs.ColumnLaws.{chosen, skipped}
@@ -39,9 +36,8 @@ use Rattle.machine.specs.FinishLaws.{quiet-pack}
 use Rattle.machine.specs.PlainStepLaws.{idle-pack}
 use Rattle.machine.specs.SendStepLaws.{going}
 use Rattle.moves.specs.declared.Move.the-variants.{Nothing}  -- keep
-use Rattle.record.specs.declared.Plan.{Plan}  -- keep
 use Rattle.record.specs.Setters.{putQueues}  -- keep
-use Rattle.rules.specs.State.{State as Model, withTables, levelOf}  -- keep
+use Rattle.rules.specs.State.{State as Model, withTables}  -- keep
 
 -- no task has a number that is not below their count
 not-below : (o n : ℕ) → not (ltb o n) ≡ leb n o

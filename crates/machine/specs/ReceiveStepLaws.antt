@@ -2,50 +2,44 @@
 use mathlib.Core.Path.{_≡_, refl, ap, sym, _∙_}
 use mathlib.Core.List.{List, [], _∷_, _++_}
 use mathlib.Core.Bool.{Bool, true, false, cond, not}
-use mathlib.Core.Logic.{inl, inr}
 use mathlib.Core.Option.{Option, none, some}
 use Prim.Native.Nat.{ℕ, _-_, _<_}
 use native.Mathlib.Omega.{arith}
-use lib.Dec.{ltb, leb, eqb}
+use lib.Dec.{eqb}
 use lib.ListN.{length, getD, set}
 use borrow.Author.Tests.{leb-false, not-true, not-false, eqb-true, eq-eqb, ne-eqb}
-use Rattle.lists.specs.Test.{_and_, _or_, someb, holds}
-use Rattle.lists.specs.Count.{occ, member, opt}
-use Rattle.lists.specs.Order.{before}
-use Rattle.lists.specs.TestLaws.{which, clash, by-test, and-l, and-r, and-false, or-none}
-use Rattle.lists.specs.CountLaws.{occ-append}
+use Rattle.lists.specs.Test.{_and_, _or_, someb}
+use Rattle.lists.specs.Count.{member}
+use Rattle.lists.specs.TestLaws.{clash, by-test, and-l, and-r, and-false}
 use Rattle.lists.specs.TableLaws.{length-snoc}
-use Rattle.rules.specs.Sizes.{taskPlaces, granted, onTime, onSend, onReceive}
-use Rattle.rules.specs.Tables.{roomIn, messageIn, taskCount, queueCount, waitOf, widthOf, depthOf, queueOwnerOf, messagesOf, waitFor}
+use Rattle.rules.specs.Sizes.{granted, onTime}
+use Rattle.rules.specs.Tables.{roomIn, messageIn, queueCount, waitOf, widthOf, depthOf, queueOwnerOf, messagesOf}
 use Rattle.rules.specs.Tables.{awaitedKind, awaitedObject}
-use Rattle.rules.specs.Levels.{ownerAwaited, heirAwaited, lends, chainOf, linksOf, closesRing, bestWaiter}
+use Rattle.rules.specs.Levels.{ownerAwaited, heirAwaited, lends, bestWaiter}
 use Rattle.rules.specs.Step.{Step, receive}
 use Rattle.rules.specs.Effect.{setMessages, hands, endWaits, ended, callerWaits, sentBy, takeIn, receiveBy, effect}
 use Rattle.rules.specs.Settle.{settle, dispatch}
-use Rattle.rules.specs.Refusal.{Row, _when_, isWaitingTime, held, ofCaller, noMessage, callerOwnsQueue, mayReceive, refusals}
+use Rattle.rules.specs.Refusal.{Row, _when_, isWaitingTime, held, noMessage, callerOwnsQueue, mayReceive, refusals}
 use Rattle.rules.specs.Invariant.{Facts, Inv}
-use Rattle.rules.specs.FactsLaws.{facts-begin}
-use Rattle.rules.specs.QueueLaws.{chain-held}
 use Rattle.rules.specs.MessageLaws.{took-facts, swapped-facts}
 use Rattle.rules.specs.WaiterLaws.{places-end, awaits-lends, best-waits}
 use Rattle.rules.specs.StepLaws.{left-wait, caller-in, caller-idle, may-receive}
 use Rattle.task_lists.specs.TaskList.{noId, keyOf, idOf}
 use Rattle.rings.specs.Ring.{slotOf, spot}
-use Rattle.machine.specs.Planned.{planFor}
 use Rattle.record.specs.Record.{kindCode, packTasks, packMutexes, packSemaphores, packQueues, pack}
 use Rattle.record.specs.Layout.{ringOf}
 use Rattle.record.specs.Reads.{queueOwnerAt}
-use Rattle.machine.specs.Machine.{single, settled, dispatched, woke, lined, blockedOn, usedSet, oldestSet, widthAt, usedAt, placeAt, nextOldest, answerMoving, answerIn, sentOff, takenIn, receiveOn, mayTake, receiveStep}
+use Rattle.machine.specs.Machine.{single, settled, dispatched, woke, lined, usedSet, oldestSet, widthAt, usedAt, placeAt, nextOldest, answerMoving, sentOff, takenIn, receiveOn, mayTake, receiveStep}
 use Rattle.record.specs.PackLaws.{levelColumn, packWith}
-use Rattle.record.specs.ReadLaws.{queue-owner-read, width-read, depth-read, used-read}
+use Rattle.record.specs.ReadLaws.{queue-owner-read, width-read, used-read}
 use Rattle.record.specs.ColumnLaws.{chosen, skipped}
 use Rattle.machine.specs.FlagLaws.{flag-one, single-flags}
 use Rattle.machine.specs.WaitLaws.{best-pack}
 use Rattle.machine.specs.EffectLaws.{member-ended, woke-pack}
-use Rattle.machine.specs.ObjectLaws.{level-same, lends-begin, lends-end, lends-messages, lends-hands}
+use Rattle.machine.specs.ObjectLaws.{level-same, lends-end, lends-messages, lends-hands}
 use Rattle.machine.specs.QueueObjectLaws.{place-packed, next-packed, used-set, used-same, oldest-set}
-use Rattle.machine.specs.RowLaws.{Course, still, ruled, on-row, on-accept, called-some, id-code, id-some, running-below, on-caller}
-use Rattle.machine.specs.FinishLaws.{quiet-pack, settled-finish, lined-finish, unchanged-finish}
+use Rattle.machine.specs.RowLaws.{Course, still, ruled, on-row, on-accept, called-some, on-caller}
+use Rattle.machine.specs.FinishLaws.{quiet-pack, settled-finish, lined-finish}
 use Rattle.machine.specs.WaitStepLaws.{may-wait, time-test, wait-finish, best-named, best-below}
 use Rattle.machine.specs.SendStepLaws.{going, queue-owner-at, owns-queue-test, unowned-test}
 use Rattle.moves.specs.declared.Move.{Move}  -- keep
@@ -54,7 +48,7 @@ use Rattle.record.specs.declared.State.{State}  -- keep
 use Rattle.record.specs.declared.Queues.{Queues}  -- keep
 use Rattle.record.specs.declared.Plan.{Plan}  -- keep
 use Rattle.record.specs.Setters.{putQueues}  -- keep
-use Rattle.rules.specs.State.{State as Model, withTables, placed, levelOf}  -- keep
+use Rattle.rules.specs.State.{State as Model, withTables, levelOf}  -- keep
 use Rattle.rules.specs.Tables.{Tables}  -- keep
 
 module _ (os : List ℕ) (s : Model) (I : Inv s) where
@@ -115,11 +109,11 @@ module _ (os : List ℕ) (s : Model) (I : Inv s) where
       abbrev pub place : ℕ
       place = spot (ringOf os (s .tables .queues) q) 0
 
-      module _ (column : length os ≡ queueCount (s .tables)) (r : ℕ) (run : s .running ≡ some r) (low : q < queueCount (s .tables)) where
+      module _ (column : length os ≡ queueCount (s .tables)) (in-ring : getD os q 0 < depthOf (s .tables) q) (r : ℕ) (run : s .running ≡ some r) (low : q < queueCount (s .tables)) where
         -- the numbers of the queue, as the code works them out
         turned : oldestSet ((pack os s) .queues) q (nextOldest ((pack os s) .queues) q) ≡ packQueues (set os q turn) (s .tables .queues)
         unfolding pack
-        turned = ap (oldestSet (packQueues os (s .tables .queues)) q) (next-packed (s .tables) (I .facts) os q) ∙ oldest-set (s .tables) (I .facts) os q turn low (omega arith)
+        turned = ap (oldestSet (packQueues os (s .tables .queues)) q) (next-packed (s .tables) (I .facts) os q in-ring) ∙ oldest-set (s .tables) (I .facts) os q turn low (omega arith)
 
         -- nobody waits to send
         take-none : bestWaiter (s .tables) (roomIn q) ≡ none → receiveOn (pack os s) q t ≡ ruled (going os s I (set os q turn) (Take place (widthOf (s .tables) q) (idOf (s .running)))) s x later
@@ -214,10 +208,10 @@ module _ (os : List ℕ) (s : Model) (I : Inv s) where
               moved-by = ap (answerMoving k 0 0) swap-move
 
     -- a receive with nobody waiting to send, and one that takes in a sender's message
-    pub took-pack : (m : List ℕ) (ms : List (List ℕ)) → messagesOf (s .tables) q ≡ m ∷ ms → length os ≡ queueCount (s .tables) → bestWaiter (s .tables) (roomIn q) ≡ none
+    pub took-pack : (m : List ℕ) (ms : List (List ℕ)) → messagesOf (s .tables) q ≡ m ∷ ms → length os ≡ queueCount (s .tables) → (q < queueCount (s .tables) → getD os q 0 < depthOf (s .tables) q) → bestWaiter (s .tables) (roomIn q) ≡ none
         → receiveStep (pack os s) q t ≡ ruled (going os s I (set os q (slotOf (getD os q 0) (depthOf (s .tables) q) 1)) (Take (spot (ringOf os (s .tables .queues) q) 0) (widthOf (s .tables) q) (idOf (s .running)))) s x (refusals s x)
-    took-pack m ms e column best = receive-rows _ _ (λ r run low valid own. take-none m ms e column r run low best)
+    took-pack m ms e column in-ring best = receive-rows _ _ (λ r run low valid own. take-none m ms e column (in-ring low) r run low best)
 
-    pub swapped-pack : (m : List ℕ) (ms : List (List ℕ)) → messagesOf (s .tables) q ≡ m ∷ ms → length os ≡ queueCount (s .tables) → (w : ℕ) → bestWaiter (s .tables) (roomIn q) ≡ some w
+    pub swapped-pack : (m : List ℕ) (ms : List (List ℕ)) → messagesOf (s .tables) q ≡ m ∷ ms → length os ≡ queueCount (s .tables) → (q < queueCount (s .tables) → getD os q 0 < depthOf (s .tables) q) → (w : ℕ) → bestWaiter (s .tables) (roomIn q) ≡ some w
         → receiveStep (pack os s) q t ≡ ruled (going os s I (set os q (slotOf (getD os q 0) (depthOf (s .tables) q) 1)) (Swap (spot (ringOf os (s .tables .queues) q) 0) (widthOf (s .tables) q) (idOf (s .running)) w)) s x (refusals s x)
-    swapped-pack m ms e column w best = receive-rows _ _ (λ r run low valid own. take-sent m ms e column r run low w best)
+    swapped-pack m ms e column in-ring w best = receive-rows _ _ (λ r run low valid own. take-sent m ms e column (in-ring low) r run low w best)

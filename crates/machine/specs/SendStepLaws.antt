@@ -4,25 +4,25 @@ use mathlib.Core.List.{List, [], _∷_, _++_}
 use mathlib.Core.Bool.{Bool, true, false, cond, not}
 use mathlib.Core.Logic.{inl, inr}
 use mathlib.Core.Option.{Option, none, some}
-use Prim.Native.Nat.{ℕ, _+_, _<_}
+use Prim.Native.Nat.{ℕ, _+_, _≤_, _<_}
 use native.Mathlib.Omega.{arith}
-use lib.Dec.{ltb, leb, eqb}
-use lib.ListN.{length, getD, replicate}
-use borrow.Author.Tests.{leb-false, not-true, not-false, eqb-true, eq-eqb, ne-eqb}
+use lib.Dec.{ltb, eqb}
+use lib.ListN.{length, replicate}
+use borrow.Author.Tests.{leb-false, lt-ltb, le-ltb, not-false, eqb-true, eqb-false, ne-eqb}
 use Rattle.lists.specs.Test.{_and_, _or_, someb, holds}
 use Rattle.lists.specs.Count.{occ, member, opt}
 use Rattle.lists.specs.Order.{before}
 use Rattle.lists.specs.TestLaws.{which, clash, by-test, and-l, and-r, and-false, or-none}
 use Rattle.lists.specs.CountLaws.{occ-append}
 use Rattle.lists.specs.TableLaws.{getD-fill, length-snoc}
-use Rattle.rules.specs.Sizes.{taskPlaces, granted, onTime, onSend, onReceive}
-use Rattle.rules.specs.Tables.{roomIn, messageIn, taskCount, queueCount, waitOf, widthOf, depthOf, queueOwnerOf, messagesOf, waitFor}
+use Rattle.rules.specs.Sizes.{taskPlaces, granted, onTime, onSend}
+use Rattle.rules.specs.Tables.{roomIn, messageIn, queueCount, waitOf, widthOf, depthOf, queueOwnerOf, messagesOf, waitFor}
 use Rattle.rules.specs.Tables.{awaitedKind, awaitedObject}
-use Rattle.rules.specs.Levels.{ownerAwaited, heirAwaited, lends, chainOf, linksOf, closesRing, bestWaiter}
+use Rattle.rules.specs.Levels.{heirAwaited, lends, chainOf, linksOf, closesRing, bestWaiter}
 use Rattle.rules.specs.Step.{Step, send}
 use Rattle.rules.specs.Effect.{setMessages, hands, beginWait, endWaits, ended, callerWaits, deliver, sendBy, effect}
 use Rattle.rules.specs.Settle.{settle, dispatch}
-use Rattle.rules.specs.Refusal.{Row, _when_, isWaitingTime, held, ofCaller, noRoom, callerOwnsQueue, ringRow, noSuchQueue, refusals}
+use Rattle.rules.specs.Refusal.{Row, _when_, isWaitingTime, held, ofCaller, noRoom, callerOwnsQueue, ringRow, refusals}
 use Rattle.rules.specs.Invariant.{Facts, Inv}
 use Rattle.rules.specs.FactsLaws.{facts-begin}
 use Rattle.rules.specs.QueueLaws.{chain-held}
@@ -31,7 +31,6 @@ use Rattle.rules.specs.WaiterLaws.{places-end, awaits-lends, best-waits}
 use Rattle.rules.specs.StepLaws.{left-wait, caller-in, caller-idle, of-caller}
 use Rattle.task_lists.specs.TaskList.{noId, idOf}
 use Rattle.rings.specs.Ring.{spot}
-use Rattle.machine.specs.Planned.{planFor}
 use Rattle.record.specs.Record.{kindCode, packTasks, packMutexes, packSemaphores, packQueues, pack}
 use Rattle.record.specs.Layout.{ringOf}
 use Rattle.record.specs.Reads.{queueOwnerAt}
@@ -62,6 +61,13 @@ both-tests true true x y = refl
 both-tests true false x y = refl
 both-tests false b x y = refl
 
+-- of no more messages than there is room for, there is room for one more, or none
+below-or-full : (used depth : ℕ) → used ≤ depth → ltb used depth ≡ not (eqb used depth)
+below-or-full used depth h = elim (which (eqb used depth)) [
+  | inl e ↦ le-ltb used depth (omega (arith, eqb-true used depth e)) ∙ ap not (sym e)
+  | inr e ↦ lt-ltb used depth (omega (arith, eqb-false used depth e)) ∙ ap not (sym e)
+]
+
 module _ (os : List ℕ) (s : Model) (I : Inv s) where
   -- a step after which the oldest messages stand at `after`
   abbrev pub going : List ℕ → Move → Course
@@ -80,9 +86,9 @@ module _ (os : List ℕ) (s : Model) (I : Inv s) where
   pub unowned-test : (q : ℕ) → eqb (queueOwnerAt ((pack os s) .queues) q) noId ≡ not (someb (queueOwnerOf (s .tables) q))
   unowned-test q = ap (λ x. eqb x noId) (queue-owner-at q) ∙ id-code (queueOwnerOf (s .tables) q) (λ i e. omega (arith, I .facts .queue-owners q i e, I .facts .few-tasks))
 
-  full-test : (q : ℕ) → eqb (usedAt ((pack os s) .queues) q) (depthAt ((pack os s) .queues) q) ≡ noRoom s q
+  room-test : (q : ℕ) → q < queueCount (s .tables) → ltb (usedAt ((pack os s) .queues) q) (depthAt ((pack os s) .queues) q) ≡ not (noRoom s q)
   unfolding pack
-  full-test q = rw (used-read (s .tables) os q, depth-read (s .tables) os q) refl
+  room-test q low = rw (used-read (s .tables) os q, depth-read (s .tables) os q) (below-or-full (length (messagesOf (s .tables) q)) (depthOf (s .tables) q) (I .facts .queues q low .room))
 
   -- the record of tables in which r also holds m is the same, whatever its levels
   pub blocked-held : (r : ℕ) → s .running ≡ some r → (q t : ℕ) (m : List ℕ)
@@ -159,7 +165,7 @@ module _ (os : List ℕ) (s : Model) (I : Inv s) where
 
       send-full : noRoom s q ≡ true → sendOn (pack os s) q t ≡ ruled (going os (HoldWords (idOf (s .running)))) s x later
       unfolding pack effect sendBy callerWaits
-      send-full full = chosen _ _ _ (full-test q ∙ full)
+      send-full full = skipped _ _ _ (room-test q low ∙ ap not full)
           ∙ on-row c s x _ _ refl (λ e. chosen _ _ _ (owns-queue-test q r run ∙ and-r _ _ e)) (λ e. skipped _ _ _ (owns-queue-test q r run ∙ and-false _ _ full e) ∙ waits-same
           ∙ on-row c s x _ _ refl (λ f. chosen _ _ _ (and-r _ _ f)) (λ f. skipped _ _ _ (and-false _ _ full f)
           ∙ on-row c s x _ _ refl (λ g. chosen _ _ _ (and-r _ _ g)) (λ g. skipped _ _ _ (and-false _ _ full g)
@@ -185,7 +191,7 @@ module _ (os : List ℕ) (s : Model) (I : Inv s) where
         send-tail : bestWaiter (s .tables) (messageIn q) ≡ none
             → sendOn (pack os s) q t ≡ ruled (going os (QueueWords (spot (ringOf os (s .tables .queues) q) (length (messagesOf (s .tables) q))))) s x later
         unfolding delivered pack packTasks packMutexes packSemaphores packWith levelColumn effect sendBy deliver awaitedKind awaitedObject idOf
-        send-tail best = skipped _ _ _ (full-test q ∙ gap) ∙ ap (delivered (pack os s) q) (best-pack os s (messageIn q) ∙ ap idOf best)
+        send-tail best = chosen _ _ _ (room-test q low ∙ ap not gap) ∙ ap (delivered (pack os s) q) (best-pack os s (messageIn q) ∙ ap idOf best)
             ∙ passes (going os (QueueWords (spot (ringOf os (s .tables .queues) q) (length (messagesOf (s .tables) q)))))
             (ap (λ z. answerMoving (putQueues (pack os s) (usedSet ((pack os s) .queues) q (z + 1))) 0 0 (QueueWords (placeAt ((pack os s) .queues) q z))) (used-read (s .tables) os q)
             ∙ ap (λ z. answerMoving (putQueues (pack os s) (usedSet ((pack os s) .queues) q (length (messagesOf (s .tables) q) + 1))) 0 0 (QueueWords z)) (place-packed (s .tables) (I .facts) os q (length (messagesOf (s .tables) q)) low)
@@ -222,7 +228,7 @@ module _ (os : List ℕ) (s : Model) (I : Inv s) where
 
           send-handed : sendOn (pack os s) q t ≡ ruled (going os (HoldWords w)) s x later
           unfolding delivered effect sendBy deliver awaitedKind awaitedObject idOf
-          send-handed = skipped _ _ _ (full-test q ∙ gap) ∙ ap (delivered (pack os s) q) (best-pack os s (messageIn q) ∙ ap idOf best)
+          send-handed = chosen _ _ _ (room-test q low ∙ ap not gap) ∙ ap (delivered (pack os s) q) (best-pack os s (messageIn q) ∙ ap idOf best)
               ∙ skipped _ _ _ (ne-eqb w noId (λ e. omega (arith, best-below os s I (messageIn q) w best)))
               ∙ passes (going os (HoldWords w)) (on-accept (going os (HoldWords w)) s x (deliver s q m (some w)) _
               (called-some s (s .running) (sendBy s q t m) r run ∙ skipped _ _ _ gap ∙ ap (deliver s q m) best) refl handed-finish)

@@ -38,7 +38,7 @@ use Rattle.record.specs.declared.State.{State}  -- keep
 use Rattle.record.specs.declared.Tasks.{Tasks}  -- keep
 use Rattle.record.specs.Setters.{putClock, putTasks}  -- keep
 use Rattle.rules.specs.State.{State as Model, levelOf, withTables, withClock}  -- keep
-use Rattle.rules.specs.Tables.{Tables, Wait, taskCount, outcomeOf, waitOf, withTasks}  -- keep
+use Rattle.rules.specs.Tables.{Tables, Wait, waitOf, withTasks}  -- keep
 use Rattle.rules.specs.Answer.{stepSound}  -- keep
 
 -- a change that changes nothing

@@ -28,8 +28,8 @@ use Rattle.machine.specs.Machine.{ownersFrom, dueNow, dueFlag, waitsOn, 
 use Rattle.record.specs.PackLaws.{ticks-back}
 use Rattle.record.specs.ReadLaws.{kind-read, object-read, timed-read, due-read, level-read, owner-read, owner-back, queue-owner-read, queue-owner-back, next-pack}
 use Rattle.machine.specs.FlagLaws.{Flags}
-use Rattle.rules.specs.State.{State as Model, levelOf}  -- keep
-use Rattle.rules.specs.Tables.{awaitedKind, awaitedObject, Tables, Wait, Awaited, mutexOf, semOf, roomIn, messageIn, time, taskCount, waitOf, kindOf, ownerOf}  -- keep
+use Rattle.rules.specs.State.{State as Model}  -- keep
+use Rattle.rules.specs.Tables.{awaitedKind, awaitedObject, Tables, Wait, Awaited, mutexOf, semOf, roomIn, messageIn, time, taskCount, waitOf}  -- keep
 
 -- the code of a test
 abbrev bit : Bool → ℕ

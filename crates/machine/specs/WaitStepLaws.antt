@@ -46,7 +46,7 @@ use Rattle.record.specs.declared.State.{State}  -- keep
 use Rattle.record.specs.declared.Plan.{Plan}  -- keep
 use Rattle.record.specs.Setters.{putSemaphores}  -- keep
 use Rattle.rules.specs.State.{State as Model, levelOf, placed, withTables}  -- keep
-use Rattle.rules.specs.Tables.{awaitedKind, awaitedObject, Tables, Wait, Awaited, mutexOf, semOf, roomIn, messageIn, time, taskCount, semCount, waitOf, countOf, maximumOf, ticksOf, waitFor, ownerOf}  -- keep
+use Rattle.rules.specs.Tables.{awaitedKind, awaitedObject, Awaited, semOf, time, taskCount, semCount, waitOf, countOf, maximumOf, ticksOf, waitFor}  -- keep
 use Rattle.rules.specs.Answer.{stepSound}  -- keep
 
 -- tests of times

@@ -1,6 +1,6 @@
 // What stands at a queue's place, and where its messages lie in the lent block: for a number that is no place, what an unused one holds.
 ghost use mathlib.Core.Path.{_≡_};
-ghost use Prim.Native.Nat.{_*_, _≤_, _<_};
+ghost use Prim.Native.Nat.{_*_, _≤_};
 ghost use Rattle.rings.specs.Starts.{queuePlaces, areaMost, startIn};
 ghost use Rattle.record.specs.Reads.{queueOwnerAt};
 ghost use Rattle.machine.specs.Machine.{widthAt, depthAt, oldestAt, usedAt, placeAt, nextOldest};
@@ -83,9 +83,9 @@ pub fn place_of(x: Queues, q: u8, k: u8) -> u32
     first + width_at(x, q) as u32 * slot
 }
 
-// The ring place behind the oldest message's.
+// The ring place behind the oldest message's: behind the last one comes the first.
 pub fn next_oldest(x: Queues, q: u8) -> u8
-    ensures { λ r. ⌜ (oldestAt x q < depthAt x q → r ≡ nextOldest x q) ⌝ }
+    ensures { λ r. ⌜ r ≡ nextOldest x q ⌝ }
 {
     let next = oldest_at(x, q) as u32 + 1;
     if next < depth_at(x, q) as u32 {

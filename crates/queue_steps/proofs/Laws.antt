@@ -3,11 +3,9 @@ use mathlib.Core.Path.{_≡_, refl, _∙_}
 use mathlib.Core.List.{List}
 use mathlib.Core.Bool.{Bool, true, false, cond}
 use mathlib.Core.Logic.{inl, inr}
-use Prim.Native.Nat.{ℕ, _≤_, _<_}
-use native.Mathlib.Omega.{arith}
-use lib.Dec.{eqb}
+use Prim.Native.Nat.{ℕ}
+use lib.Dec.{ltb, eqb}
 use lib.ListN.{length, replicate}
-use borrow.Author.Tests.{eq-eqb, ne-eqb}
 use Rattle.lists.specs.TestLaws.{which}
 use Rattle.lists.specs.Count.{member}
 use Rattle.lists.specs.Order.{before}
@@ -65,18 +63,15 @@ module _ (k : State) (q t count : ℕ) (passed : eqb (timedRefusal (k .started) 
   other-width e = send-passed k q t count passed ∙ rw e refl
 
   module _ (wide : eqb count (widthAt (k .queues) q) ≡ true) where
-    pub has-room : usedAt (k .queues) q < depthAt (k .queues) q → sendStep k q t count ≡ delivered k q (bestAt k onReceive q)
-    has-room h = send-passed k q t count passed ∙ rw (wide, ne-eqb (usedAt (k .queues) q) (depthAt (k .queues) q) (λ e. omega arith)) refl
+    pub has-room : ltb (usedAt (k .queues) q) (depthAt (k .queues) q) ≡ true → sendStep k q t count ≡ delivered k q (bestAt k onReceive q)
+    has-room h = send-passed k q t count passed ∙ rw (wide, h) refl
 
-    module _ (full : depthAt (k .queues) q ≤ usedAt (k .queues) q) (fits : usedAt (k .queues) q ≤ depthAt (k .queues) q) where
-      is-full : eqb (usedAt (k .queues) q) (depthAt (k .queues) q) ≡ true
-      is-full = eq-eqb (usedAt (k .queues) q) (depthAt (k .queues) q) (omega arith)
-
+    module _ (full : ltb (usedAt (k .queues) q) (depthAt (k .queues) q) ≡ false) where
       pub own-full : eqb (queueOwnerAt (k .queues) q) (k .running) ≡ true → sendStep k q t count ≡ answerIn k 9 0
-      own-full e = send-passed k q t count passed ∙ rw (wide, is-full, e) refl
+      own-full e = send-passed k q t count passed ∙ rw (wide, full, e) refl
 
       pub full-waits : eqb (queueOwnerAt (k .queues) q) (k .running) ≡ false → sendStep k q t count ≡ sendWaits k q t
-      full-waits e = send-passed k q t count passed ∙ rw (wide, is-full, e) refl
+      full-waits e = send-passed k q t count passed ∙ rw (wide, full, e) refl
 
 -- the flagged waits end
 pub woke-parts : (k : State) (flags : List ℕ) (slept other : ℕ) (t : Tasks) (w : TaskList) → t ≡ endedWhere (k .tasks) flags slept other → w ≡ kept (k .waiting) flags 0

@@ -1,10 +1,10 @@
 // The steps on message queues: the refusals in the order of the table, then what the step does. Words of messages move afterwards (`moves`).
 ghost use mathlib.Core.Path.{_≡_};
-ghost use Prim.Native.Nat.{_≤_, _<_};
+ghost use Prim.Native.Nat.{_<_};
 ghost use Rattle.rules.specs.Sizes.{onSend, onReceive};
 ghost use Rattle.record.specs.declared.Queues.{Queues};
 ghost use Rattle.moves.specs.declared.Move.the-variants.{Take, Swap};
-ghost use Rattle.machine.specs.Machine.{widthAt, depthAt, oldestAt, usedAt, placeAt, bestAt, orderBehind, orderWith, sendWaits, delivered, sendStep, takenIn, mayTake, receiveStep};
+ghost use Rattle.machine.specs.Machine.{widthAt, usedAt, placeAt, bestAt, orderBehind, orderWith, sendWaits, delivered, sendStep, takenIn, mayTake, receiveStep};
 use machine::Order;
 use moves::Move;
 use objects::queues;
@@ -121,7 +121,7 @@ fn deliver(mut s: State, q: u8) -> Plan
 
 // A message of `count` words: the owner of a full queue is refused, as only it could make room.
 pub fn send(s: State, queue: u32, time: u32, count: usize) -> Plan
-    ensures { λ r. ⌜ (usedAt (s .queues) queue ≤ depthAt (s .queues) queue → r ≡ sendStep s queue time count) ⌝ }
+    ensures { λ r. ⌜ r ≡ sendStep s queue time count ⌝ }
 {
     let no = refusals::of_timed(s.started, s.running, s.queues.n, queue, time);
     if no != 0 {
@@ -171,7 +171,7 @@ fn swapped(x: Queues, q: u8, task: u8, sender: u8) -> Move
 // The caller takes the oldest message; then there is room for that of the best waiting sender, which becomes ready.
 fn take(mut s: State, q: u8) -> Plan
     requires { ⌜ 0 < usedAt (s .queues) q ⌝ }
-    ensures { λ r. ⌜ (oldestAt (s .queues) q < depthAt (s .queues) q → r ≡ takenIn s q (bestAt s onSend q)) ⌝ }
+    ensures { λ r. ⌜ r ≡ takenIn s q (bestAt s onSend q) ⌝ }
 {
     let caller = s.running;
     let x = s.queues;
@@ -213,7 +213,7 @@ fn may_take(owner: u8, caller: u8) -> bool
 
 // The oldest message is taken; where there is none, the caller waits for one, unless it may not.
 pub fn receive(mut s: State, queue: u32, time: u32) -> Plan
-    ensures { λ r. ⌜ ((queue < s .queues .n → oldestAt (s .queues) queue < depthAt (s .queues) queue) → r ≡ receiveStep s queue time) ⌝ }
+    ensures { λ r. ⌜ r ≡ receiveStep s queue time ⌝ }
 {
     let no = refusals::of_timed(s.started, s.running, s.queues.n, queue, time);
     if no != 0 {

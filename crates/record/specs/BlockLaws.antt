@@ -1,15 +1,12 @@
 -- What a step may change in the lent block: the words of one message place of its own queue, and no other.
 use mathlib.Core.Path.{_≡_, refl, ap, sym, _∙_, subst}
 use mathlib.Core.List.{List, [], _∷_}
-use mathlib.Core.Bool.{true, false, cond}
-use mathlib.Core.Logic.{inl, inr}
 use mathlib.Core.Option.{Option, none, some}
-use Prim.Native.Nat.{ℕ, _+_, _≤_, _<_}
+use Prim.Native.Nat.{ℕ, _≤_, _<_}
 use native.Mathlib.Omega.{arith}
-use lib.Dec.{eqb}
 use lib.ListN.{length, getD}
 use borrow.Author.Tests.{leb-false, eqb-true, not-false, ne-eqb}
-use Rattle.lists.specs.TestLaws.{which, by-test, or-none}
+use Rattle.lists.specs.TestLaws.{by-test, or-none}
 use Rattle.rules.specs.Tables.{roomIn, messageIn, queueCount, widthOf, depthOf, messagesOf}
 use Rattle.rules.specs.Levels.{bestWaiter}
 use Rattle.rules.specs.Step.{Step, task, mutex, sem, start, lock, unlock, pend, post, flush, sleep, yield, hold, free, tick, level, outcome, queue, send, receive, word}
@@ -23,11 +20,11 @@ use Rattle.rings.specs.Words.{laid, Off}
 use Rattle.rings.specs.WordsLaws.{laid-word}
 use Rattle.rings.specs.Ring.{spot}
 use Rattle.rings.specs.RingLaws.{spot-in}
-use Rattle.record.specs.Record.{ringAt, viewTables, view, packQueues, pack, packWords, oldestIn}
+use Rattle.record.specs.Record.{ringAt, viewTables, view, packQueues, pack, oldestIn}
 use Rattle.record.specs.Whole.{Whole}
 use Rattle.record.specs.Layout.{ringOf, Stands, packed}
 use Rattle.record.specs.SoundRecord.{soundOf}
-use Rattle.record.specs.GoodRecord.{Typed, WordsTyped}
+use Rattle.record.specs.GoodRecord.{Typed}
 use Rattle.record.specs.StepRecord.{After, afterFor, blockSent, blockTaken, blockFor, stays, stepBy}
 use Rattle.record.specs.ReadLaws.{width-read, used-read}
 use Rattle.record.specs.SoundPackLaws.{sound-view}
@@ -144,9 +141,9 @@ module _ (s : Model) (I : Inv s) (os b : List ℕ) (S : Stands os b (s .tables .
 
 -- document 02, K1: "In the block, nothing outside the queue's own words changes.": outside the one message place that the step fills no word changes,
 -- whatever record, words and block are handed in
-pub block-outside : (h : Whole) (x : Step) (i : ℕ) → Typed (h .state) → WordsTyped (h .words) → Outside h x i → getD ((stepBy h x) .whole .block) i 0 ≡ getD (h .block) i 0
+pub block-outside : (h : Whole) (x : Step) (i : ℕ) → Typed (h .state) → Outside h x i → getD ((stepBy h x) .whole .block) i 0 ≡ getD (h .block) i 0
 unfolding stepBy stays afterFor
-block-outside h x i T W off = by-test (λ (A : After). getD (A .whole .block) i 0 ≡ getD (h .block) i 0) (isFormed x)
+block-outside h x i T off = by-test (λ (A : After). getD (A .whole .block) i 0 ≡ getD (h .block) i 0) (isFormed x)
     (λ f. by-test (λ (A : After). getD (A .whole .block) i 0 ≡ getD (h .block) i 0) (soundOf h)
-    (λ e. subst (λ (z : Whole). Outside z x i → getD (blockFor z x ((stepSound (view h) x) .number)) i 0 ≡ getD (z .block) i 0) (whole-pack h T W e)
-    (sound-outside (view h) (sound-view h e) (oldestIn (h .state .queues)) (h .block) (view-stands h T W e) i x) off) (λ e. refl)) (λ f. refl)
+    (λ e. subst (λ (z : Whole). Outside z x i → getD (blockFor z x ((stepSound (view h) x) .number)) i 0 ≡ getD (z .block) i 0) (whole-pack h T e)
+    (sound-outside (view h) (sound-view h e) (oldestIn (h .state .queues)) (h .block) (view-stands h T e) i x) off) (λ e. refl)) (λ f. refl)

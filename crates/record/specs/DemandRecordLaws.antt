@@ -3,17 +3,14 @@
 use mathlib.Core.Path.{_≡_, refl, ap, sym, _∙_, fun-ext, subst}
 use mathlib.Core.List.{List, [], _∷_}
 use mathlib.Core.Bool.{Bool, true, false, cond}
-use mathlib.Core.Logic.{_⊎_, inl, inr}
+use mathlib.Core.Logic.{inl, inr}
 use mathlib.Core.Option.{Option, none, some}
-use Prim.Native.Nat.{ℕ, _≤_, _<_}
+use Prim.Native.Nat.{ℕ, _<_}
 use native.Mathlib.Omega.{arith}
 use lib.Dec.{leb, eqb}
 use lib.ListN.{length}
 use borrow.Author.Tests.{ne-eqb}
-use Rattle.lists.specs.TestLaws.{which, by-test}
-use Rattle.rules.specs.Sizes.{maxQueues}
-use Rattle.rules.specs.Tables.{mutexOf, roomIn}
-use Rattle.rules.specs.Levels.{linksOf}
+use Rattle.lists.specs.TestLaws.{which, by-test, and-l, and-r}
 use Rattle.rules.specs.Step.{Step, task, mutex, sem, start, lock, unlock, pend, post, flush, sleep, yield, hold, free, tick, level, outcome, queue, send, receive, word}
 use Rattle.rules.specs.Refusal.{Row, refusals, firstRow}
 use Rattle.rules.specs.Log.{logLine, withRoom, Call, inRoom, call}
@@ -24,10 +21,9 @@ use Rattle.rules.specs.Demand.{eventOf, events, after}
 use Rattle.rules.specs.RefusalLaws.{call-by, refused-unchanged}
 use Rattle.rules.specs.RefusalLaws as R
 use Rattle.rules.specs.DemandLaws.{call-inv, demand-3-from}
-use Rattle.rules.specs.LinkLaws.{lock-links, send-links}
 use Rattle.task_lists.specs.TaskList.{noId, taskListOf, idOf}
 use Rattle.walks.specs.Walk.{taskAt}
-use Rattle.record.specs.Record.{viewTables, view, packTasks, packMutexes, packSemaphores, packQueues, pack, joined, packWords, oldestIn}
+use Rattle.record.specs.Record.{view, packTasks, packMutexes, packSemaphores, packQueues, pack, joined, packWords, oldestIn}
 use Rattle.lists.specs.Table.{pad, filled}
 use Rattle.record.specs.Whole.{Whole, whole}
 use Rattle.record.specs.Layout.{Stands, packed}
@@ -36,12 +32,11 @@ use Rattle.record.specs.StepRecord.{stepFor, numberOf, valueOf, runOf, a
 use Rattle.record.specs.GoodRecord.{Typed, WordsTyped}
 use Rattle.record.specs.TidyLaws.{running-id}
 use Rattle.record.specs.PackLaws.{id-back}
-use Rattle.record.specs.WordsPackLaws.{words-typed}
+use Rattle.record.specs.WordsPackLaws.{words-many}
 use Rattle.record.specs.SoundPackLaws.{view-pack, pack-sound, pack-typed, sound-view, sound-tidy, sound-pack, sound-words, sound-stands}
-use Rattle.record.specs.StepStandsLaws.{oldest-back, refused-same, step-stands}
+use Rattle.record.specs.StepStandsLaws.{refused-same, step-stands}
 use Rattle.record.specs.ColumnLaws.{chosen, skipped}
 use Rattle.record.specs.DemandRecord.{freshRecord, freshWith, requestFor, messageFor, readOut, inMemory, callRecord, eventsRecord, afterRecord, answerRecord, Demand-3-record-from, Demand-3-record}
-use Rattle.record.specs.declared.State.{State}  -- keep
 use Rattle.record.specs.declared.Request.{Request}  -- keep
 use Rattle.record.specs.declared.Request.the-variants.{Task, Mutex, Sem, Start, Lock, Unlock, Pend, Post, Flush, Sleep, Yield, Hold, Free, Tick, Level, Outcome, Queue, OwnedQueue, Send, Receive, Word}  -- keep
 use Rattle.rules.specs.State.{State as Model, fresh}  -- keep
@@ -288,10 +283,15 @@ unfolding pack
 packed-again s I o b S x n z = let q = refused-same s I o b S x n z in ap (λ y. whole (pack y s) (packWords (s .tables)) (blockFor (packed o b s) x n)) (q .0) ∙ ap (whole (pack o s) (packWords (s .tables))) (q .1)
 
 -- a sound record with its words and block is the packing of what it stands for, with the ring places of its oldest messages
-module _ (h : Whole) (T : Typed (h .state)) (W : WordsTyped (h .words)) (sound : soundOf h ≡ true) where
+module _ (h : Whole) (T : Typed (h .state)) (sound : soundOf h ≡ true) where
+  -- it has as many words as there are places for
+  all-words : WordsTyped (h .words)
+  unfolding soundOf
+  all-words = words-many (h .words) (h .state .tasks .n) (and-l _ _ (and-r _ _ sound))
+
   pub whole-pack : packed (oldestIn (h .state .queues)) (h .block) (view h) ≡ h
   unfolding view
-  whole-pack = λ i. record { state = sound-pack h sound T i; words = sound-words h sound W i; block = h .block }
+  whole-pack = λ i. record { state = sound-pack h sound T i; words = sound-words h sound all-words i; block = h .block }
 
   pub view-stands : Stands (oldestIn (h .state .queues)) (h .block) ((view h) .tables .queues)
   unfolding view
@@ -332,36 +332,36 @@ pub fresh-sound : (block : List ℕ) → soundOf (freshWith block) ≡ true
 fresh-sound block = ap soundOf (fresh-packed block) ∙ pack-sound (fresh (length block)) (fresh-inv (length block)) [] block (fresh-stands block)
 
 -- a step answers an unsound record 15 or 14 and leaves it, so no step makes one sound
-pub step-verdict : (h : Whole) (x : Step) → Typed (h .state) → WordsTyped (h .words) → soundOf ((stepBy h x) .whole) ≡ soundOf h
+pub step-verdict : (h : Whole) (x : Step) → Typed (h .state) → soundOf ((stepBy h x) .whole) ≡ soundOf h
 unfolding stepBy stays
-step-verdict h x T W = elim (which (soundOf h)) [
-  | inl e ↦ step-sound h T W e x ∙ sym e
+step-verdict h x T = elim (which (soundOf h)) [
+  | inl e ↦ step-sound h T e x ∙ sym e
   | inr e ↦ by-test (λ (A : After). soundOf (A .whole) ≡ soundOf h) (isFormed x) (λ f. rw e e) (λ f. refl)
 ]
 
 -- and hands on a record with the lengths and the numbers of its type
-pub step-typed : (h : Whole) (x : Step) → Typed (h .state) → WordsTyped (h .words) → Typed ((stepBy h x) .whole .state) × WordsTyped ((stepBy h x) .whole .words)
+pub step-typed : (h : Whole) (x : Step) → Typed (h .state) → Typed ((stepBy h x) .whole .state)
 unfolding stepBy stays
-step-typed h x T W = elim (which (soundOf h)) [
-  | inl e ↦ (let K = handed h T W e x in
+step-typed h x T = elim (which (soundOf h)) [
+  | inl e ↦ (let K = handed h T e x in
       let I = fair-step (view h) (sound-view h e) x .sound in
-      rw (K .whole) (pack-typed ((step (view h) x) .state) I (K .o) (omega (arith, K .there .oldest-column, I .facts .few-queues)), words-typed ((step (view h) x) .state .tables) (I .facts)))
-  | inr e ↦ by-test (λ (A : After). Typed (A .whole .state) × WordsTyped (A .whole .words)) (isFormed x) (λ f. rw e (T, W)) (λ f. (T, W))
+      rw (K .whole) (pack-typed ((step (view h) x) .state) I (K .o) (omega (arith, K .there .oldest-column, I .facts .few-queues))))
+  | inr e ↦ by-test (λ (A : After). Typed (A .whole .state)) (isFormed x) (λ f. rw e T) (λ f. T)
 ]
 
 -- the same state packed again where it came from
-left-alone : (h : Whole) (T : Typed (h .state)) (W : WordsTyped (h .words)) (e : soundOf h ≡ true) (x : Step) (n : ℕ) (s : Model) → eqb n 0 ≡ false → s ≡ view h
+left-alone : (h : Whole) (T : Typed (h .state)) (e : soundOf h ≡ true) (x : Step) (n : ℕ) (s : Model) → eqb n 0 ≡ false → s ≡ view h
     → whole (pack (oldestFor (h .state .queues) x n) s) (packWords (s .tables)) (blockFor h x n) ≡ h
-left-alone h T W e x n s z same =
+left-alone h T e x n s z same =
     ap (λ y. whole (pack (oldestFor (h .state .queues) x n) y) (packWords (y .tables)) (blockFor h x n)) same
-    ∙ ap (λ y. whole (pack (oldestFor (y .state .queues) x n) (view h)) (packWords ((view h) .tables)) (blockFor y x n)) (sym (whole-pack h T W e))
-    ∙ packed-again (view h) (sound-view h e) (oldestIn (h .state .queues)) (h .block) (view-stands h T W e) x n z
-    ∙ whole-pack h T W e
+    ∙ ap (λ y. whole (pack (oldestFor (y .state .queues) x n) (view h)) (packWords ((view h) .tables)) (blockFor y x n)) (sym (whole-pack h T e))
+    ∙ packed-again (view h) (sound-view h e) (oldestIn (h .state .queues)) (h .block) (view-stands h T e) x n z
+    ∙ whole-pack h T e
 
 -- "Every number but 0 and 1 leaves the state unchanged.": the record, the words and the block too, whether the record is sound or not
-pub refused-stays : (h : Whole) (x : Step) → Typed (h .state) → WordsTyped (h .words) → 1 < numberOf ((stepBy h x) .answer) → (stepBy h x) .whole ≡ h
+pub refused-stays : (h : Whole) (x : Step) → Typed (h .state) → 1 < numberOf ((stepBy h x) .answer) → (stepBy h x) .whole ≡ h
 unfolding stepBy afterFor stays
-refused-stays h x T W = by-test (λ (A : After). 1 < numberOf (A .answer) → A .whole ≡ h) (isFormed x)
+refused-stays h x T = by-test (λ (A : After). 1 < numberOf (A .answer) → A .whole ≡ h) (isFormed x)
     (λ f. by-test (λ (A : After). 1 < numberOf (A .answer) → A .whole ≡ h) (soundOf h) (λ e k. go f e k) (λ e k. refl)) (λ f k. refl)
   where
     a : Ruled
@@ -371,17 +371,17 @@ refused-stays h x T W = by-test (λ (A : After). 1 < numberOf (A .answer) → A 
     go f e k =
         let same : step (view h) x ≡ a = step-is (view h) (sound-view h e) x f in
         let above : 1 < a .number = omega (arith, number-back (a .number) (a .value) (a .run)) in
-        left-alone h T W e x (a .number) (a .state) (ne-eqb (a .number) 0 (λ z. omega arith)) (rw same at (refused-unchanged (view h) x) above)
+        left-alone h T e x (a .number) (a .state) (ne-eqb (a .number) 0 (λ z. omega arith)) (rw same at (refused-unchanged (view h) x) above)
 
 -- and with a log line: demand 1 for every call
-pub call-stays : (h : Whole) (c : Call) → Typed (h .state) → WordsTyped (h .words) → 1 < numberOf ((callRecord h c) .answer) → (callRecord h c) .whole ≡ h
+pub call-stays : (h : Whole) (c : Call) → Typed (h .state) → 1 < numberOf ((callRecord h c) .answer) → (callRecord h c) .whole ≡ h
 unfolding callRecord inMemory stays
-call-stays h c T W = go (c .room)
+call-stays h c T = go (c .room)
   where
     A : After
     A = stepOf h (requestFor (c .made)) (messageFor (c .made))
 
     go : (room : Option ℕ) → 1 < numberOf ((inMemory h room A) .answer) → (inMemory h room A) .whole ≡ h
-    go none = refused-stays h (stepFor (requestFor (c .made)) (messageFor (c .made))) T W
+    go none = refused-stays h (stepFor (requestFor (c .made)) (messageFor (c .made))) T
     go (some room) = by-test (λ (z : After). 1 < numberOf (z .answer) → z .whole ≡ h) (leb (length (logLine (readOut A))) room)
-        (λ e. refused-stays h (stepFor (requestFor (c .made)) (messageFor (c .made))) T W) (λ e k. refl)
+        (λ e. refused-stays h (stepFor (requestFor (c .made)) (messageFor (c .made))) T) (λ e k. refl)

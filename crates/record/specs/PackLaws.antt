@@ -38,7 +38,7 @@ use Rattle.record.specs.declared.Mutexes.{Mutexes}  -- keep
 use Rattle.record.specs.declared.Semaphores.{Semaphores}  -- keep
 use Rattle.record.specs.declared.Queues.{Queues}  -- keep
 use Rattle.task_lists.specs.declared.TaskList.{TaskList}  -- keep
-use Rattle.rules.specs.State.{State as Model, levelOf}  -- keep
+use Rattle.rules.specs.State.{State as Model}  -- keep
 
 -- the table of levels
 unfoldable pub levelColumn : Tables → List ℕ

@@ -10,7 +10,7 @@ use Rattle.lists.specs.Test.{someb}
 use Rattle.lists.specs.Table.{pad, filled}
 use Rattle.chains.specs.Chain.{on}
 use Rattle.rules.specs.Sizes.{taskPlaces, maxMutexes, maxSemaphores, maxQueues, heldWords, kinds, wordSize, onMutex, onSemaphore, onTime, onSend, onReceive}
-use Rattle.rules.specs.Tables.{taskCount, mutexCount, semCount, queueCount}
+use Rattle.rules.specs.Tables.{taskCount, mutexCount, semCount}
 use Rattle.rules.specs.Levels.{levelIn}
 use Rattle.rules.specs.Step.{hold, level, outcome}
 use Rattle.rings.specs.Ring.{Ring, messages}

@@ -20,7 +20,7 @@ use Rattle.lists.specs.TestLaws.{which, by-test, and-l, and-r, true-and, or-l, 
 use Rattle.lists.specs.CountLaws.{occ-opt, in-below, below-le, pigeonhole}
 use Rattle.lists.specs.TableLaws.{length-filled, getD-filled, filled-is, take-pad, length-pad, getD-pad, read-any}
 use Rattle.chains.specs.Chain.{on}
-use Rattle.rules.specs.Sizes.{taskPlaces, maxMutexes, maxSemaphores, maxQueues, kinds, wordSize, onTime, onReceive}
+use Rattle.rules.specs.Sizes.{taskPlaces, maxMutexes, maxSemaphores, maxQueues, kinds, wordSize, onReceive}
 use Rattle.rules.specs.Levels.{levelIn}
 use Rattle.rules.specs.Step.{hold}
 use Rattle.rules.specs.Sound.{soundb}
@@ -36,13 +36,13 @@ use Rattle.record.specs.Layout.{ringOf, Stands}
 use Rattle.record.specs.SoundRecord.{isObjectWait, usedTaskb, unusedTaskb, taskPlaceb, tasksTidyb, idb, mutexPlaceb, mutexesTidyb, semPlaceb, semaphoresTidyb, queuePlaceb, queuesTidyb, wordsTidyb, taskListTidyb, tidyb, levelsb, soundOf}
 use Rattle.record.specs.GoodRecord.{Typed, WordsTyped}
 use Rattle.record.specs.TidyLaws.{queues-fit, used-queue}
-use Rattle.record.specs.ViewLaws.{view-queues, view-depth, view-messages}
-use Rattle.record.specs.WordsPackLaws.{words-typed, words-back, words-tidy, words-pack}
+use Rattle.record.specs.ViewLaws.{view-queues}
+use Rattle.record.specs.WordsPackLaws.{words-back, words-tidy, words-pack}
 use Rattle.record.specs.PackLaws.{ticks-back, task-back, good-queues, good-pack}
 use Rattle.record.specs.ReadLaws.{level-out, kind-read, object-read, timed-read, due-read, priority-read, level-read, outcome-read, owner-read, mutex-read, count-read, maximum-read, queue-owner-read, width-read, depth-read, oldest-read, used-read, level-pack}
 use Rattle.record.specs.declared.Queues.{Queues}  -- keep
-use Rattle.rules.specs.State.{State as Model, levelOf}  -- keep
-use Rattle.rules.specs.Tables.{Awaited, mutexOf, semOf, roomIn, messageIn, time, awaitedKind, awaitedObject, Wait, TaskTable, MutexTable, SemTable, QueueTable, Tables, taskCount, mutexCount, semCount, queueCount, priorityOf, outcomeOf, waitOf, ownerOf, kindOf, countOf, maximumOf, widthOf, depthOf, queueOwnerOf, messagesOf}  -- keep
+use Rattle.rules.specs.State.{State as Model}  -- keep
+use Rattle.rules.specs.Tables.{Awaited, mutexOf, semOf, roomIn, messageIn, time, awaitedKind, awaitedObject, Wait, TaskTable, MutexTable, SemTable, QueueTable, Tables, taskCount, mutexCount, semCount, queueCount, waitOf, ownerOf, depthOf, queueOwnerOf}  -- keep
 
 -- a packed queue's ring
 same-ring : (a b : Ring) → a .at ≡ b .at → a .width ≡ b .width → a .depth ≡ b .depth → a .oldest ≡ b .oldest → a .used ≡ b .used → a ≡ b

@@ -5,7 +5,7 @@ use Prim.Native.Nat.{ℕ, _*_}
 use lib.Dec.{ltb, leb, eqb}
 use lib.ListN.{length, getD}
 use Rattle.lists.specs.Test.{_and_, _or_, allb}
-use Rattle.rules.specs.Sizes.{taskPlaces, maxMutexes, maxSemaphores, maxQueues, heldWords, onMutex, onSemaphore, onTime, onReceive}
+use Rattle.rules.specs.Sizes.{taskPlaces, maxMutexes, maxSemaphores, maxQueues, heldWords, onTime, onReceive}
 use Rattle.rules.specs.Levels.{levelIn}
 use Rattle.rules.specs.Sound.{soundb}
 use Rattle.task_lists.specs.TaskList.{places, noId}

@@ -1,12 +1,11 @@
 -- A step's change of queues keeps the messages standing in the block: one more, the oldest taken, or both; every other queue keeps its own.
 use mathlib.Core.Path.{_≡_, refl, ap, sym, _∙_}
 use mathlib.Core.List.{List, [], _∷_, _++_}
-use mathlib.Core.Logic.{inl, inr}
-use mathlib.Core.Option.{Option, none, some}
+use mathlib.Core.Option.{Option, some}
 use Prim.Native.Nat.{ℕ, zero, suc, _+_, _-_, _*_, _≤_, _<_}
 use native.Mathlib.Omega.{arith}
-use native.Mathlib.Decide.{ℕ-discrete, decLt}
-use lib.ListN.{length, getD, set, drop, length-set, List·getD-append, List·getD-eq-default}
+use native.Mathlib.Decide.{ℕ-discrete}
+use lib.ListN.{length, getD, set, drop, length-set, List·getD-append}
 use lib.Seq.{getD-set-same, getD-set-other, getD-at}
 use Rattle.lists.specs.Table.{filled}
 use Rattle.lists.specs.TableLaws.{length-snoc, snoc-default}
@@ -15,8 +14,8 @@ use Rattle.rules.specs.Invariant.{Facts}
 use Rattle.rules.specs.QueueLaws.{width-range}
 use Rattle.rules.specs.Effect.{setMessages, addQueue}
 use Rattle.rings.specs.Words.{laid}
-use Rattle.rings.specs.Ring.{Ring, slotOf, spot, past, message, messages, Sits, fuller, fewer, turned}
-use Rattle.rings.specs.RingLaws.{slot-in, length-message}
+use Rattle.rings.specs.Ring.{Ring, slotOf, spot, messages, Sits, fuller, fewer, turned}
+use Rattle.rings.specs.RingLaws.{slot-in}
 use Rattle.rings.specs.Starts.{startOf, Placed}
 use Rattle.rings.specs.StartsLaws.{start-same, start-behind, starts-apart}
 use Rattle.rings.specs.PutLaws.{length-put, put-apart, put-appends}

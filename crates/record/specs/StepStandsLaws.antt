@@ -1,10 +1,9 @@
 -- After every step the block holds the messages of the state: where it held those of the state before.
 use mathlib.Core.Path.{_≡_, refl, ap, sym, _∙_, subst}
-use mathlib.Core.List.{List, [], _∷_, _++_}
-use mathlib.Core.Bool.{true, false, cond, not}
-use mathlib.Core.Logic.{inl, inr}
+use mathlib.Core.List.{List, [], _∷_}
+use mathlib.Core.Bool.{false}
 use mathlib.Core.Option.{Option, none, some}
-use Prim.Native.Nat.{ℕ, _+_, _-_, _≤_, _<_}
+use Prim.Native.Nat.{ℕ, _<_}
 use native.Mathlib.Omega.{arith}
 use lib.Dec.{eqb}
 use lib.ListN.{length, getD, set}
@@ -12,32 +11,30 @@ use borrow.Author.Tests.{leb-false, eqb-true, eqb-false, not-false, ne-eqb}
 use Rattle.lists.specs.Test.{_and_}
 use Rattle.lists.specs.TestLaws.{by-test, and-r, or-none}
 use Rattle.lists.specs.TableLaws.{take-pad}
-use Rattle.rules.specs.Sizes.{maxQueues, granted}
+use Rattle.rules.specs.Sizes.{maxQueues}
 use Rattle.rules.specs.Tables.{QueueTable, Tables, roomIn, messageIn, queueCount, ownerOf, widthOf, depthOf, messagesOf}
 use Rattle.rules.specs.Levels.{bestWaiter}
 use Rattle.rules.specs.Step.{Step, task, mutex, sem, start, lock, unlock, pend, post, flush, sleep, yield, hold, free, tick, level, outcome, queue, send, receive, word}
 use Rattle.rules.specs.Tables.{mutexOf, semOf}
-use Rattle.rules.specs.Effect.{Effect, setMessages, callerWaits, lockBy, passOn, pendBy, credit, flushOf, deliver, sendBy, sentBy, takeIn, receiveBy, tickOf, yieldBy, called, effect}
-use Rattle.rules.specs.Settle.{finish}
+use Rattle.rules.specs.Effect.{Effect, callerWaits, lockBy, passOn, pendBy, credit, flushOf, deliver, sendBy, sentBy, takeIn, receiveBy, tickOf, yieldBy, effect}
 use Rattle.rules.specs.Refusal.{Row, noCredit, noRoom, refusals, firstRow}
 use Rattle.rules.specs.Sound.{isWidth, isDepth}
 use Rattle.rules.specs.Invariant.{Inv}
 use Rattle.rules.specs.SoundLaws.{depth-true}
-use Rattle.rules.specs.MessageLaws.{oldest-wide, sender-full, sent-wide}
+use Rattle.rules.specs.MessageLaws.{sender-full, sent-wide}
 use Rattle.rules.specs.StepLaws.{passed, called-by, caller-in, caller-idle}
 use Rattle.rules.specs.RefusalLaws.{refused-number, refused-above, caller-by}
 use Rattle.rules.specs.OutcomeLaws.{finish-tables}
-use Rattle.rings.specs.Words.{laid}
 use Rattle.rings.specs.Ring.{slotOf, spot}
-use Rattle.record.specs.Record.{ringAt, viewTables, packQueues, pack, packWords, oldestIn}
-use Rattle.record.specs.Whole.{Whole, whole}
+use Rattle.record.specs.Record.{ringAt, viewTables, packQueues, pack, oldestIn}
+use Rattle.record.specs.Whole.{Whole}
 use Rattle.record.specs.Layout.{ringOf, Stands, packed}
 use Rattle.record.specs.StepRecord.{oldestFor, blockSent, blockTaken, blockFor}
 use Rattle.record.specs.ReadLaws.{depth-read, oldest-read, used-read}
 use Rattle.record.specs.SoundPackLaws.{ring-pack, tables-pack}
 use Rattle.record.specs.StandsLaws.{stands-put, stands-take, stands-swap, stands-add}
 use Rattle.rules.specs.State.{State as Model}  -- keep
-use Rattle.rules.specs.Answer.{Answer as Ruled, answered, decide, stepSound}  -- keep
+use Rattle.rules.specs.Answer.{decide, stepSound}  -- keep
 
 module _ (s : Model) (I : Inv s) (os b : List ℕ) (S : Stands os b (s .tables .queues)) where
   abbrev t : Tables

@@ -12,7 +12,7 @@ use lib.ListN.{length, getD, take, List·getD-eq-default, List·getD-map, length
 use lib.Seq.{length-take-le, getD-take}
 use borrow.Author.Tests.{ltb-true, eqb-true, lt-ltb, le-ltb, ne-eqb}
 use Rattle.lists.specs.Table.{filled}
-use Rattle.lists.specs.TestLaws.{which, and-l, and-r, or-true, all-true}
+use Rattle.lists.specs.TestLaws.{which, and-r, or-true, all-true}
 use Rattle.lists.specs.TableLaws.{length-filled, getD-filled, read-any}
 use Rattle.chains.specs.Least.{leastLeading}
 use Rattle.rules.specs.Sizes.{taskPlaces, maxMutexes, maxQueues, inheriting, onMutex, onSemaphore, onTime, onSend, onReceive}
@@ -25,10 +25,10 @@ use Rattle.record.specs.Record.{awaitedBy, waitWith, waitIn, waitAt, rin
 use Rattle.record.specs.Whole.{whole}
 use Rattle.rings.specs.Ring.{messages}
 use Rattle.rings.specs.Held.{heldBy}
-use Rattle.record.specs.SoundRecord.{mutexPlaceb, tidyb, levelsb, idb}
+use Rattle.record.specs.SoundRecord.{mutexPlaceb, tidyb, levelsb}
 use Rattle.record.specs.Reads.{ownerAt, kindAt, queueOwnerAt, ledBy, leadsAt, nextAt, heirAt, lendsAt, newLevels, countAt, maximumAt}
 use Rattle.record.specs.GoodRecord.{Typed}
-use Rattle.record.specs.TidyLaws.{tasks-fit, mutexes-fit, semaphores-fit, queues-fit, mutex-place, used-queue, unused-queue, unused-at}
+use Rattle.record.specs.TidyLaws.{tasks-fit, mutexes-fit, semaphores-fit, queues-fit, mutex-place, unused-queue, unused-at}
 use Rattle.record.specs.declared.State.{State}  -- keep
 
 -- a stored level, where stored levels are as defined

@@ -8,7 +8,7 @@ use native.Mathlib.Omega.{arith}
 use native.Mathlib.Decide.{decLt}
 use lib.ListN.{length, getD, set, take, drop, replicate, length-append}
 use lib.Seq.{take-at, drop-append-add, take-add, getD-take, getD-drop}
-use borrow.Author.Tests.{ltb-true, eqb-true, le-ltb, lt-ltb, eq-eqb}
+use borrow.Author.Tests.{ltb-true, eqb-true, lt-ltb, eq-eqb}
 use Rattle.lists.specs.Table.{pad, filled}
 use Rattle.lists.specs.TestLaws.{and-l, and-r, true-and, or-true, all-true, true-all, or-l, or-r}
 use Rattle.lists.specs.TableLaws.{getD-filled, filled-is, pad-take, length-pad, getD-pad}

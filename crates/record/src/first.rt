@@ -15,6 +15,19 @@ use crate::Tasks;
 use crate::WORDS;
 use task_lists::TaskList;
 
+fn no_queues() -> Queues
+    ensures { λ r. ⌜ r ≡ freshRecord .queues ⌝ }
+{
+    Queues {
+        width: [0u8; QUEUES],
+        depth: [0u8; QUEUES],
+        owner: [NONE; QUEUES],
+        oldest: [0u8; QUEUES],
+        used: [0u8; QUEUES],
+        n: 0,
+    }
+}
+
 // "A fresh state is in set-up, with nothing made, clock and hold 0."
 pub fn fresh() -> State
     ensures { λ r. ⌜ r ≡ freshRecord ⌝ }
@@ -43,14 +56,7 @@ pub fn fresh() -> State
         maximum: [0u32; SEMAPHORES],
         n: 0,
     };
-    let queues = Queues {
-        width: [0u8; QUEUES],
-        depth: [0u8; QUEUES],
-        owner: [NONE; QUEUES],
-        oldest: [0u8; QUEUES],
-        used: [0u8; QUEUES],
-        n: 0,
-    };
+    let queues = no_queues();
     State {
         tasks: tasks,
         semaphores: semaphores,

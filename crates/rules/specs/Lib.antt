@@ -27,5 +27,6 @@ pub mod RefusalLaws
 pub mod AgreeLaws
 pub mod DemandLaws
 pub mod OutcomeLaws
+pub mod KeptLaws
 pub mod Objects
 pub mod LinkLaws

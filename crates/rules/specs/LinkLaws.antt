@@ -213,7 +213,7 @@ module _ (s : State) (I : Inv s) (q t : ℕ) (m : List ℕ) where
   send-links = step-by (λ a. SendLinked (a .number) (a .value)) s (send q t m) refused-send accepted-send (λ e. absurd (clash (inv-sound s I) e))
       (λ e h. absurd (elim h [ inl z ↦ omega arith | inr z ↦ omega arith ]))
 
-  -- "0 on a queue without owner"
+  -- none where the queue has no owner
   pub send-unowned : (r : ℕ) → queueOwnerOf (s .tables) q ≡ none → linksOf (s .tables) r (roomIn q) ≡ 0
   unfolding chainOf ownerAwaited before
   send-unowned r e = rw (e, walk-none (next (s .tables)) (taskCount (s .tables))) refl

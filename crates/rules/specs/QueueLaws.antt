@@ -1,22 +1,21 @@
 -- A change of messages or of held words keeps the facts of the tables.
-use mathlib.Core.Path.{_≡_, refl, ap, sym, _∙_, fun-ext}
+use mathlib.Core.Path.{_≡_, refl, ap, _∙_, fun-ext}
 use mathlib.Core.List.{List, [], _∷_, _++_}
 use mathlib.Core.Bool.{true, false}
 use mathlib.Core.Logic.{_⊎_, inl, inr}
 use mathlib.Core.Option.{Option, none, some}
 use Prim.Native.Nat.{ℕ, suc, _≤_, _<_}
 use native.Mathlib.Omega.{arith}
-use native.Mathlib.Decide.{ℕ-discrete, decLt}
+use native.Mathlib.Decide.{ℕ-discrete}
 use lib.Dec.{eqb}
-use lib.ListN.{length, set, getD, take, length-set, List·getD-append, List·getD-eq-default}
+use lib.ListN.{length, set, getD, length-set, List·getD-append, List·getD-eq-default}
 use lib.Seq.{getD-set-same, getD-set-other}
 use borrow.Author.Tests.{eqb-true}
-use Rattle.lists.specs.Table.{pad}
 use Rattle.lists.specs.TestLaws.{clash, or-true}
 use Rattle.lists.specs.TableLaws.{snoc-last, length-snoc, getD-pad, length-pad}
 use Rattle.rules.specs.Sizes.{heldWords}
 use Rattle.rules.specs.Tables.{Awaited, mutexOf, semOf, roomIn, messageIn, time, Wait, Tables, taskCount, queueCount, waitOf, wordsOf, widthOf, depthOf, messagesOf}
-use Rattle.rules.specs.Levels.{ownerAwaited, next, chainOf, linksOf, closesRing, sameAwaited, waitIsFor, awaits}
+use Rattle.rules.specs.Levels.{next, chainOf, sameAwaited, waitIsFor, awaits}
 use Rattle.rules.specs.Effect.{heldFor, setMessages, hands}
 use Rattle.rules.specs.Sound.{isWidth}
 use Rattle.rules.specs.Invariant.{Unavailable, Blocked, Queued, QueueFits, Facts}

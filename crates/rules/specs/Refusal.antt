@@ -6,8 +6,8 @@ use Prim.Native.Nat.{ℕ, _+_, _*_}
 use lib.Dec.{ltb, leb, eqb}
 use lib.ListN.{length}
 use Rattle.lists.specs.Test.{_and_, _or_, someb, holds}
-use Rattle.rules.specs.Sizes.{maxTasks, maxMutexes, maxSemaphores, maxQueues, maxDepth, heldWords, levels, kinds, maxHold, maxTicks, forever}
-use Rattle.rules.specs.Tables.{Awaited, mutexOf, semOf, roomIn, taskCount, mutexCount, semCount, queueCount, ownerOf, countOf, maximumOf, widthOf, depthOf, queueOwnerOf, messagesOf, spaceTaken}
+use Rattle.rules.specs.Sizes.{maxTasks, maxMutexes, maxSemaphores, maxQueues, heldWords, levels, kinds, maxHold, maxTicks, forever}
+use Rattle.rules.specs.Tables.{Awaited, mutexOf, semOf, roomIn, taskCount, mutexCount, semCount, queueCount, ownerOf, countOf, maximumOf, widthOf, queueOwnerOf, messagesOf, spaceTaken}
 use Rattle.rules.specs.Levels.{linksOf, closesRing, bestWaiter}
 use Rattle.rules.specs.State.{State}
 use Rattle.rules.specs.Sound.{isWidth, isDepth, existsb}

@@ -22,7 +22,7 @@ use Rattle.rules.specs.Sizes.{maxDepth, heldWords, maxTicks, granted, pe
 use Rattle.rules.specs.Tables.{Awaited, mutexOf, semOf, roomIn, messageIn, time, isSleep, Wait, Tables, taskCount, mutexCount, semCount, queueCount, outcomeOf, waitOf, wordsOf, ownerOf, countOf, widthOf, depthOf, queueOwnerOf, messagesOf}
 use Rattle.rules.specs.Levels.{next}
 use Rattle.rules.specs.State.{State, levelOf}
-use Rattle.rules.specs.Sound.{columnsb, sizesb, rangesb, isWidth, isDepth, messagesb, queueb, queuesb, wordsb, clockb, waitCount, waitingb, placesb, ascendingb, unavailableb, leftb, blockedb, timedb, waitersb, timesb, isOwn, pastb, suitsb, queuedb, queueWaitsb, existsb, ownersb, noRingb, countsb, outcomeb, outcomesb, noneIn, runsb, holdb, urgentTop, urgentb, setUpb, tablesb, soundb}
+use Rattle.rules.specs.Sound.{columnsb, sizesb, rangesb, isDepth, messagesb, queueb, queuesb, wordsb, clockb, waitCount, waitingb, placesb, ascendingb, unavailableb, leftb, blockedb, timedb, waitersb, timesb, isOwn, pastb, suitsb, queuedb, queueWaitsb, existsb, ownersb, noRingb, countsb, outcomeb, outcomesb, noneIn, runsb, holdb, urgentTop, urgentb, setUpb, tablesb, soundb}
 use Rattle.rules.specs.Invariant.{Unavailable, Blocked, Suits, Queued, QueueFits, Left, Timed, Outcome, Facts, Places, SetUp, Started, Inv}
 use Rattle.rules.specs.LevelLaws.{wait-out, next-none, next-ended}
 

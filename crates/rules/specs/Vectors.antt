@@ -1,4 +1,4 @@
--- Document 01's whole session and RK0's nested locks, computed by the rules from script to log: one table with one claim.
+-- Document 01's whole session, RK0's nested locks and two sessions with queues, computed by the rules from script to log: one table with one claim.
 use mathlib.Core.Path.{_≡_, refl}
 use mathlib.Core.List.{List, [], _∷_, _++_, map}
 use mathlib.Core.Option.{Option, none, some}
@@ -13,7 +13,7 @@ use Rattle.chains.specs.Least.{least, leadsTo, leastLeading}
 use Rattle.rules.specs.Tables.{awaitedKind, awaitedObject, ticksOf, takenBy}
 use Rattle.rules.specs.Levels.{ownerAwaited, heirAwaited, ofWait, next, lends, levelIn, chainOf, sameAwaited, waitIsFor, waitersOf, bestWaiter}
 use Rattle.rules.specs.State.{State, fresh}
-use Rattle.rules.specs.Step.{Step, task, mutex, start, lock, unlock, sleep, tick, level}
+use Rattle.rules.specs.Step.{Step, task, mutex, start, lock, unlock, sleep, hold, free, tick, level, outcome, queue, send, receive, word}
 use Rattle.rules.specs.Effect.{heldFor, callerWaits, lockBy, passOn, pendBy, credit, flushOf, deliver, sendBy, takeIn, receiveBy, isDue, outcomeDue, lessOne, age, tickOf, yieldBy, called, effect}
 use Rattle.rules.specs.Settle.{settledReady, meet, dispatch, finish}
 use Rattle.rules.specs.Refusal.{ofCaller, linksFor, refusals, firstRow}
@@ -100,12 +100,82 @@ nestedLocks =
     line (level 2) 0 3 (some 2) ∷
     []))
 
+-- document 02, K1: "A message goes to the best waiting receiver, else to the tail; a receive that makes room takes in the best waiting sender's message."
+roomOrder : List Line
+roomOrder =
+    line (task 8) 0 0 none ∷
+    line (task 6) 0 1 none ∷
+    line (task 3) 0 2 none ∷
+    line (queue 1 2 none) 0 0 none ∷
+    line start 0 0 (some 2) ∷
+    line (sleep 2) 1 0 (some 1) ∷
+    line (send 0 0 (1 ∷ [])) 0 0 (some 1) ∷
+    line (send 0 0 (2 ∷ [])) 0 0 (some 1) ∷
+    line (send 0 9 (3 ∷ [])) 1 0 (some 0) ∷
+    line tick 0 0 (some 0) ∷
+    line tick 0 0 (some 2) ∷
+    line (send 0 9 (4 ∷ [])) 1 0 (some 0) ∷
+    line (level 0) 0 8 (some 0) ∷
+    line (receive 0 0) 0 0 (some 2) ∷
+    line (word 0 0) 0 1 (some 2) ∷
+    line (outcome 2) 0 0 (some 2) ∷
+    line (sleep 9) 1 0 (some 0) ∷
+    line (receive 0 0) 0 0 (some 1) ∷
+    line (word 0 0) 0 2 (some 1) ∷
+    line (sleep 9) 1 0 (some 0) ∷
+    line (receive 0 0) 0 0 (some 0) ∷
+    line (word 0 0) 0 4 (some 0) ∷
+    line (receive 0 0) 0 0 (some 0) ∷
+    line (word 0 0) 0 3 (some 0) ∷
+    line (receive 0 0) 3 0 (some 0) ∷
+    []
+
+-- document 02, K1: "waiting senders lend it their level; chains, rings, links (send's too) .. read a sender's wait there as one on an inheriting mutex"
+mixedChain : List Line
+mixedChain =
+    line (task 9) 0 0 none ∷
+    line (task 5) 0 1 none ∷
+    line (task 2) 0 2 none ∷
+    line (mutex 1) 0 0 none ∷
+    line (queue 1 1 (some 0)) 0 0 none ∷
+    line start 0 0 (some 2) ∷
+    line (sleep 2) 1 0 (some 1) ∷
+    line (send 0 0 (8 ∷ [])) 0 0 (some 1) ∷
+    line (lock 0 0) 0 0 (some 1) ∷
+    line (send 0 4294967295 (9 ∷ [])) 1 1 (some 0) ∷
+    line (level 0) 0 5 (some 0) ∷
+    line tick 0 0 (some 0) ∷
+    line tick 0 0 (some 2) ∷
+    line (lock 0 9) 1 2 (some 0) ∷
+    line (level 0) 0 2 (some 0) ∷
+    line (level 1) 0 2 (some 0) ∷
+    line (lock 0 0) 3 0 (some 0) ∷
+    line hold 0 0 (some 0) ∷
+    line (lock 0 5) 11 0 (some 0) ∷
+    line free 0 0 (some 0) ∷
+    line (lock 0 5) 12 1 (some 0) ∷
+    line (receive 0 0) 0 0 (some 1) ∷
+    line (level 0) 0 9 (some 1) ∷
+    line (level 1) 0 2 (some 1) ∷
+    line (word 0 0) 0 8 (some 1) ∷
+    line (outcome 1) 0 0 (some 1) ∷
+    line (send 0 0 (1 ∷ [])) 3 0 (some 1) ∷
+    line (receive 0 0) 10 0 (some 1) ∷
+    line (unlock 0) 0 0 (some 2) ∷
+    line (level 1) 0 5 (some 2) ∷
+    line (outcome 2) 0 0 (some 2) ∷
+    []
+
+-- document 02, K1: "scripts are run with a block of 4096 words"
+abbrev scriptBlock : ℕ
+scriptBlock = 4096
+
 pub cases : List (List Line)
-cases = session ∷ nestedLocks ∷ []
+cases = session ∷ nestedLocks ∷ roomOrder ∷ mixedChain ∷ []
 
 -- from a fresh state, the rules give each script the log beside it; unfolded is all that a step is made of, its test of soundness included
-pub cases-agree : map (λ c. replay (fresh 0) (map (λ l. l .made) c)) cases ≡ map (λ c. map (λ l. l .logged) c) cases
-unfolding cases session nestedLocks replay _and_ _or_ allb someb holds eqn occ keep range byId place insertTail insertHead insertAll stable ascb tiesb
+pub cases-agree : map (λ c. replay (fresh scriptBlock) (map (λ l. l .made) c)) cases ≡ map (λ c. map (λ l. l .logged) c) cases
+unfolding cases session nestedLocks roomOrder mixedChain replay _and_ _or_ allb someb holds eqn occ keep range byId place insertTail insertHead insertAll stable ascb tiesb
     firstAt orElse firstFrom before inside edit walk endsb least leadsTo leastLeading awaitedKind awaitedObject ownerAwaited heirAwaited ofWait next lends levelIn chainOf
     sameAwaited waitIsFor waitersOf bestWaiter fresh ticksOf callerWaits lockBy passOn pendBy credit flushOf isDue outcomeDue lessOne age
     tickOf yieldBy called effect settledReady meet dispatch finish ofCaller linksFor refusals firstRow columnsb sizesb rangesb clockb waitCount

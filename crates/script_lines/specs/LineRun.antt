@@ -1,5 +1,4 @@
 -- One line run on a record with its words and block, and with lent memory for its log line: what comes back for every record, every line and every length.
-use mathlib.Core.Path.{_≡_}
 use Prim.Native.Nat.{ℕ}
 use mathlib.Core.List.{List}
 use mathlib.Core.Bool.{Bool, cond}
@@ -8,12 +7,11 @@ use lib.ListN.{length, take}
 use Rattle.text.specs.Place.{room, putBytes}
 use Rattle.rules.specs.Step.{Step}
 use Rattle.record.specs.Whole.{Whole, whole}
-use Rattle.record.specs.StepRecord.{stepFor, numberOf, valueOf, runOf, After, stays, standingIn, stepBy}
+use Rattle.record.specs.StepRecord.{stepFor, answerFor, numberOf, valueOf, runOf, After, stays, standingBy, standingIn, stepBy}
 use Rattle.record.specs.declared.State.{State}
 use Rattle.record.specs.declared.Answer.{Answer}
 use Rattle.record.specs.declared.Plan.{Plan}
-use Rattle.machine.specs.Planned.{carried}
-use Rattle.kernel.specs.Planning.{Known}
+use Rattle.kernel.specs.Planning.{unmoved, planned}
 use Rattle.words.specs.Form.{sameBytes, stepOn}
 use Rattle.log_lines.specs.LogLine.{lineBytes, logBytes, badBytes}
 use Rattle.words.specs.Form.{headerBytes}
@@ -38,11 +36,13 @@ stepRead (Made x) m = some (stepFor x m)
 abbrev pub messageWords : Message → List ℕ
 messageWords m = take (m .n) (m .words)
 
--- a plan that comes to what the line is answered, whatever message of so many words was read and whatever block of that length is lent
-abbrev pub Answers : Bool → State → List ℕ → ℕ → Line → Plan → Type 0
-Answers sound k words space l p =
-    (m block : List ℕ) → length m ≡ l .message .n → length block ≡ space → Known sound (whole k words block)
-    → carried (whole k words block) m p ≡ lineAnswered (whole k words block) (stepRead (l .reading) m)
+-- what is planned for what was read of a line, `sound` being what the test said of the record, and `count` the words of the message
+unfoldable pub planRead : Bool → State → List ℕ → ℕ → ℕ → Reading → Plan
+planRead sound k words space count Malformed = unmoved k (answerFor 14 0 (standingBy sound k))
+planRead sound k words space count (Made x) = planned sound k x count space words
+
+abbrev pub linePlanned : Bool → State → List ℕ → ℕ → Line → Plan
+linePlanned sound k words space l = planRead sound k words space (l .message .n) (l .reading)
 
 -- "one line for each script line: answer, value, running task or `-`"
 abbrev pub lineFor : Answer → List ℕ

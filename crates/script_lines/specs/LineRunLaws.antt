@@ -8,8 +8,8 @@ use Prim.Native.Nat.{ℕ, _+_, _<_}
 use native.Mathlib.Omega.{arith}
 use lib.Dec.{leb}
 use lib.ListN.{length, drop}
-use borrow.Author.Tests.{leb-false, eqb-true}
-use Rattle.lists.specs.TestLaws.{which, by-test, and-l, and-r}
+use borrow.Author.Tests.{leb-false}
+use Rattle.lists.specs.TestLaws.{which, and-r}
 use Rattle.lists.specs.TableLaws.{take-pad}
 use Rattle.text.specs.Place.{room, putAnswer, putBytes}
 use Rattle.text.specs.declared.place.Put.the-variants.{Next, Full}
@@ -17,30 +17,29 @@ use Rattle.rules.specs.Sizes.{heldWords}
 use Rattle.rules.specs.Step.{Step}
 use Rattle.rules.specs.Log.{logLine, memoryAfter}
 use Rattle.walks.specs.Walk.{taskAt}
-use Rattle.rules.specs.Answer.{standing, malformed, isFormed}
+use Rattle.rules.specs.Answer.{standing, malformed}
 use Rattle.rules.specs.Sound.{soundb}
 use Rattle.record.specs.Record.{view}
 use Rattle.record.specs.Whole.{Whole, whole}
-use Rattle.record.specs.SoundRecord.{wordsTidyb, soundOf}
-use Rattle.record.specs.GoodRecord.{Typed, WordsTyped}
+use Rattle.record.specs.SoundRecord.{soundOf}
+use Rattle.record.specs.GoodRecord.{Typed}
 use Rattle.record.specs.StepRecord.{numberOf, answerFor, After, stays, standingBy, standingIn, stepBy}
 use Rattle.record.specs.DemandRecordLaws.{step-back, step-verdict, step-typed, refused-stays}
 use Rattle.record.specs.DemandRecord.{readOut, inMemory, callRecord}
 use Rattle.record.specs.declared.State.{State}
-use Rattle.record.specs.declared.Answer.{Answer}
 use Rattle.record.specs.declared.Plan.{Plan}
-use Rattle.record.specs.declared.Request.{Request}
-use Rattle.moves.specs.declared.Move.the-variants.{Nothing}
 use Rattle.machine.specs.Planned.{carried}
-use Rattle.kernel.specs.Planning.{Known, Gives}
+use Rattle.kernel.specs.Planning.{unmoved, Known}
+use Rattle.kernel.specs.PlanningLaws.{planned-gives}
 use Rattle.words.specs.Form.{sameBytes, stepOn}
 use Rattle.log_lines.specs.LogLine.{lineBytes, logBytes, badBytes}
 use Rattle.words.specs.Form.{headerBytes}
 use Rattle.words.specs.Reading.{readingFor, messageOn}
+use Rattle.words.specs.declared.Reading.{Reading}
 use Rattle.words.specs.declared.Reading.the-variants.{Made, Malformed}
 use Rattle.syntax.specs.Line.{lineRead}
 use Rattle.syntax.specs.declared.Line.{Line}
-use Rattle.script_lines.specs.LineRun.{awaiting, running, over, lineAnswered, stepRead, messageWords, Answers, lineFor, Came, cameTo, reported, ranLine, memoryLine, headLog, headStage, headed}
+use Rattle.script_lines.specs.LineRun.{awaiting, running, over, lineAnswered, stepRead, messageWords, planRead, linePlanned, lineFor, Came, cameTo, reported, ranLine, memoryLine, headLog, headStage, headed}
 
 -- the line that reports an answer is the rules' log line of it
 pub line-ruled : (o : After) → lineFor (o .answer) ≡ logLine (readOut o)
@@ -60,47 +59,34 @@ read-back (some x) = ap some (step-back x)
 pub message-back : (o : Option Step) → messageWords ((lineRead o) .message) ≡ messageOn o
 message-back o = take-pad heldWords 0 (length (messageOn o)) (messageOn o) refl
 
--- a plan for what was read, by its case: 14, or what the kernel plans
-module _ (sound : Bool) (k : State) (words : List ℕ) (space : ℕ) (l : Line) where
-  pub malformed-answers : l .reading ≡ Malformed → (a : Answer) → a ≡ answerFor 14 0 (standingBy sound k) → Answers sound k words space l (record { state = k; answer = a; moves = Nothing })
-  unfolding carried lineAnswered stepRead stays standingIn
-  malformed-answers bad a e m block s n K = rw bad (λ i. record { whole = whole k words block; answer = (e ∙ ap (λ b. answerFor 14 0 (standingBy b k)) (K .truth)) i })
+-- what is planned for what was read comes to what its step is answered, where the test said the truth
+module _ (sound : Bool) (k : State) (words block m : List ℕ) (K : Known sound (whole k words block)) where
+  not-read : carried (whole k words block) m (unmoved k (answerFor 14 0 (standingBy sound k))) ≡ stays (whole k words block) 14 0 (standingIn (whole k words block))
+  unfolding carried stays standingIn
+  not-read = λ i. record { whole = whole k words block; answer = ap (λ b. answerFor 14 0 (standingBy b k)) (K .truth) i }
 
-  pub made-answers : (x : Request) → l .reading ≡ Made x → (p : Plan) → Gives sound k words space x (l .message .n) p → Answers sound k words space l p
-  unfolding lineAnswered stepRead
-  made-answers x is p g m block s n K = rw is (g m block s n K)
+  read-planned : (r : Reading) → carried (whole k words block) m (planRead sound k words (length block) (length m) r) ≡ lineAnswered (whole k words block) (stepRead r m)
+  unfolding planRead lineAnswered stepRead
+  read-planned Malformed = not-read
+  read-planned (Made x) = planned-gives sound k words (length block) x (length m) _ refl m block refl refl K
 
--- so a plan for what was read of a line comes to what the line is answered, where the test said the truth
-pub plan-answers : (sound : Bool) (k : State) (words : List ℕ) (block : List ℕ) (l : Line) (p : Plan) (o : Option Step) → Answers sound k words (length block) l p → l ≡ lineRead o
+-- so a plan for what was read of a line comes to what the line is answered
+pub plan-answers : (sound : Bool) (k : State) (words : List ℕ) (block : List ℕ) (l : Line) (p : Plan) (o : Option Step) → p ≡ linePlanned sound k words (length block) l → l ≡ lineRead o
     → Known sound (whole k words block) → carried (whole k words block) (messageOn o) p ≡ lineAnswered (whole k words block) o
-plan-answers sound k words block l p o g is K =
-    g (messageOn o) block (ap (λ (z : Line). z .message .n) (sym is)) refl K ∙ ap (lineAnswered (whole k words block)) (ap (λ (z : Line). stepRead (z .reading) (messageOn o)) is ∙ read-back o)
-
--- a step on an unsound record leaves it, and a sound one has as many words as there are places for
-unsound-stays : (h : Whole) (x : Step) → soundOf h ≡ false → (stepBy h x) .whole ≡ h
-unfolding stepBy stays
-unsound-stays h x e = by-test (λ (A : After). A .whole ≡ h) (isFormed x) (λ f. rw e refl) (λ f. refl)
-
-sound-words : (h : Whole) → soundOf h ≡ true → WordsTyped (h .words)
-unfolding soundOf wordsTidyb
-sound-words h e = eqb-true _ _ (and-l _ _ (and-l _ _ (and-r _ _ e)))
+plan-answers sound k words block l p o e is K =
+    ap (carried (whole k words block) (messageOn o)) (e ∙ ap (linePlanned sound k words (length block)) is)
+    ∙ read-planned sound k words block (messageOn o) K ((lineRead o) .reading) ∙ ap (lineAnswered (whole k words block)) (read-back o)
 
 -- a line leaves a sound record sound, and one that isn't as it was; and the record handed on has the lengths and the numbers of its type
 pub answered-verdict : (h : Whole) (o : Option Step) → Typed (h .state) → soundOf ((lineAnswered h o) .whole) ≡ soundOf h
 unfolding lineAnswered stays
 answered-verdict h none T = refl
-answered-verdict h (some x) T = elim (which (soundOf h)) [
-  | inl e ↦ step-verdict h x T (sound-words h e)
-  | inr e ↦ ap soundOf (unsound-stays h x e)
-]
+answered-verdict h (some x) T = step-verdict h x T
 
 pub answered-typed : (h : Whole) (o : Option Step) → Typed (h .state) → Typed ((lineAnswered h o) .whole .state)
 unfolding lineAnswered stays
 answered-typed h none T = T
-answered-typed h (some x) T = elim (which (soundOf h)) [
-  | inl e ↦ (step-typed h x T (sound-words h e)) .0
-  | inr e ↦ rw (unsound-stays h x e) T
-]
+answered-typed h (some x) T = step-typed h x T
 
 -- what the test said of the record it says of the one that a line leaves
 pub known-on : (sound : Bool) (h : Whole) (o : Option Step) → Known sound h → Known sound ((lineAnswered h o) .whole)
@@ -161,10 +147,7 @@ pub data Logged (h : Whole) (line memory : List ℕ) (r : Came) (left : List ℕ
 refused-answered : (h : Whole) (o : Option Step) → Typed (h .state) → 1 < numberOf ((lineAnswered h o) .answer) → (lineAnswered h o) .whole ≡ h
 unfolding lineAnswered stays
 refused-answered h none T k = refl
-refused-answered h (some x) T k = elim (which (soundOf h)) [
-  | inl e ↦ refused-stays h x T (sound-words h e) k
-  | inr e ↦ unsound-stays h x e
-]
+refused-answered h (some x) T k = refused-stays h x T k
 
 -- demand 1 as a script meets it: a number other than 0 and 1 leaves the record, the words and the block as they were, and of the lent memory all but
 -- the answer's log line

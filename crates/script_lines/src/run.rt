@@ -3,7 +3,7 @@ ghost use mathlib.Core.Path.{_≡_};
 ghost use Rattle.text.specs.Place.{putAnswer, putBytes};
 ghost use Rattle.moves.specs.Moves.{wordsAfter, blockAfter};
 ghost use Rattle.record.specs.Whole.{whole};
-ghost use Rattle.script_lines.specs.LineRun.{messageWords, Answers, lineFor, ranWith, ranLine, memoryLine, headed, memoryHead};
+ghost use Rattle.script_lines.specs.LineRun.{messageWords, linePlanned, lineFor, ranWith, ranLine, memoryLine, headed, memoryHead};
 use kernel::refused;
 use moves::Move;
 use record::Answer;
@@ -36,16 +36,24 @@ pub struct Headed {
 }
 
 // What was read of a line, answered on a record that was tested before, `sound` being what the test said: 14, 15, or its step, before any word is
-// moved. The lent block has `space` words.
+// moved. The lent block has `space` words. (As in `calls::call`, the record goes through no function more than it must.)
 pub fn answer(s: State, sound: bool, line: Line, space: usize, words: &[u32]) -> Plan
-    ensures { λ r. ⌜ Answers sound s (now (words .entry)) space line r ⌝ }
+    ensures { λ r. ⌜ r ≡ linePlanned sound s (now (words .entry)) space line ⌝ }
 {
     let reading = line.reading;
     let count = line.message.n;
     let Reading::Made(request) = reading else {
-        return kernel::stay(s, refused::malformed(s, sound));
+        let no_step = refused::malformed(s, sound);
+        return kernel::stay(s, no_step);
     };
-    kernel::plan(s, sound, request, count, space, words)
+    if !kernel::is_formed(request, count) {
+        let no_message = refused::malformed(s, sound);
+        return kernel::stay(s, no_message);
+    }
+    if !sound {
+        return kernel::stay(s, refused::unsound());
+    }
+    steps::perform(s, request, count, space, words)
 }
 
 // What a step moves, with the message that was read beside it. This comes after its log line: where that has no room, no word is moved.

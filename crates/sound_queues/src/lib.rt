@@ -17,7 +17,7 @@ use record::Queues;
 // The most messages that a queue has room for, as the record counts them.
 const DEEPEST: u8 = record::MAX_DEPTH as u8;
 
-// "w words (1, 2, 4 or 8)"
+// "1, 2, 4 or 8-word messages"
 fn width_fits(width: u8) -> bool
     ensures { λ r. ⌜ r ≡ isWidth width ⌝ }
 {
@@ -25,7 +25,7 @@ fn width_fits(width: u8) -> bool
     flags::either(width == 1, flags::either(width == 2, wide))
 }
 
-// "d messages (1 to 64)"
+// "depth 1 to 64"
 fn depth_fits(depth: u8) -> bool
     ensures { λ r. ⌜ r ≡ isDepth depth ⌝ }
 {

@@ -1,4 +1,4 @@
-// The waits at queues: "a waiting sender's queue is full, a waiting receiver's empty".
+// The waits at queues, for what isn't available: a waiting sender's queue is full, a waiting receiver's empty.
 ghost use mathlib.Core.Path.{_≡_};
 ghost use mathlib.Core.Bool.{not};
 ghost use lib.Dec.{ltb, eqb};

@@ -1,7 +1,6 @@
 // What each step does to a record.
 ghost use mathlib.Core.Path.{_≡_};
 ghost use Rattle.machine.specs.Machine.{machineStep};
-ghost use Rattle.machine.specs.QueuePartLaws.{Rings};
 use record::Plan;
 use record::Request;
 use record::State;
@@ -9,7 +8,7 @@ use record::State;
 // The step of a request, before any word is moved; on a sound record it is what the rules answer (`MachineLaws.sound-step`). A message beside it has
 // `count` words, the lent block has `space` words, and tasks hold `words`.
 pub fn perform(s: State, x: Request, count: usize, space: usize, words: &[u32]) -> Plan
-    ensures { λ r. ⌜ (Rings (s .queues) → r ≡ machineStep s x count space (now (words .entry))) ⌝ }
+    ensures { λ r. ⌜ r ≡ machineStep s x count space (now (words .entry)) ⌝ }
 {
     match x {
         Request::Task { priority } => set_up_steps::task(s, priority),

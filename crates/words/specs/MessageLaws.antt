@@ -11,7 +11,6 @@ use lib.Seq.{take-all, take-suc, length-take-le, getD-drop}
 use borrow.Author.Tests.{leb-true}
 use Rattle.lists.specs.Table.{pad}
 use Rattle.lists.specs.TableLaws.{pad-snoc}
-use Rattle.lists.specs.Test.{_and_}
 use Rattle.lists.specs.TestLaws.{and-r}
 use Rattle.rules.specs.Step.{Step, task, mutex, sem, start, lock, unlock, pend, post, flush, sleep, yield, hold, free, tick, level, outcome, queue, send, receive, word}
 use Rattle.rules.specs.Sizes.{heldWords}

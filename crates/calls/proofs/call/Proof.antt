@@ -1,6 +1,5 @@
 -- `call`: the record is tested, and then it goes by what is asked for.
-use mathlib.Core.Path.{_≡_, ap, sym, _∙_}
-use mathlib.Core.List.{List}
+use mathlib.Core.Path.{ap, sym, _∙_}
 use borrow.Author.Tests.{not-true, not-false}
 use Rattle.record.specs.Whole.{whole}
 use Rattle.machine.specs.Planned.{carried}

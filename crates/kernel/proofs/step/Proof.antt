@@ -4,6 +4,7 @@ use Rattle.record.specs.Whole.{whole}
 use Rattle.record.specs.StepRecord.{After, outOf}
 use Rattle.machine.specs.Planned.{carried}
 use Rattle.kernel.specs.Planning.{Known}
+use Rattle.kernel.specs.PlanningLaws.{planned-gives}
 use borrow.Author.Needs.{needs}
 use Rattle.kernel.proofs.step.Statement.{statement}
 use Rattle.kernel.proofs.step.Tie as tie
@@ -30,7 +31,7 @@ returns c =
     let a = planned .before .before .before .before .before .before .before .args in
     let test = planned .before .before .is-sound in
     let K : Known (test .result) (whole (a .s) (a .words .now) (a .block .now)) = record { typed = test .ensures .1; truth = test .ensures .0 _ refl } in
-    let E = planned .plan .ensures _ _ refl refl K in
+    let E = planned-gives _ _ _ _ _ _ _ (planned .plan .ensures) _ _ refl refl K in
     let moved = c .before .before .before .before .make .ensures in
     (ap outOf E, (moved .0 ∙ ap (λ (z : After). z .whole .words) E, moved .1 ∙ ap (λ (z : After). z .whole .block) E))
 

@@ -2,7 +2,6 @@
 use borrow.Author.Needs.{needs}
 use mathlib.Core.Path.{_≡_, refl, ap, sym, _∙_}
 use mathlib.Core.Bool.{cond}
-use Prim.Native.Nat.{_<_}
 use borrow.Author.Tests.{eq-eqb, ne-eqb, not-true, not-false}
 use native.Mathlib.Omega.{arith}
 use borrow.Author.Needs.{fits-under}
@@ -12,7 +11,6 @@ use Prim.Native.Nat.{ℕ}
 use Rattle.record.specs.Reads.{queueOwnerAt}
 use Rattle.machine.specs.Machine.{answerIn, mayWait, dispatched, blockedOn, receiveOn, mayTake}
 use Rattle.machine.specs.TimedLaws.{receive-refused, receive-passed}
-use Rattle.machine.specs.QueuePartLaws.{timed-there}
 use Rattle.queue_steps.proofs.receive.Statement.{statement}
 use Rattle.queue_steps.proofs.receive.Tie as tie
 
@@ -23,9 +21,9 @@ answer-requires : tie.Need-answer-requires
 answer-requires c κs = search needs
 
 returns : tie.Need-returns
-returns c = λ h. (
+returns c =
     let a = c .before .before .before .args in
-    c .answer .ensures ∙ ap (λ (n : ℕ). answerIn (a .s) n 0) (c .before .before .of-timed .ensures .0) ∙ sym (receive-refused (a .s) (a .queue) (a .time) (rw (← c .before .before .of-timed .ensures .0) (ne-eqb _ _ (c .before .if1 .taken)))))
+    c .answer .ensures ∙ ap (λ (n : ℕ). answerIn (a .s) n 0) (c .before .before .of-timed .ensures .0) ∙ sym (receive-refused (a .s) (a .queue) (a .time) (rw (← c .before .before .of-timed .ensures .0) (ne-eqb _ _ (c .before .if1 .taken))))
 
 cast-q : tie.Need-cast-q
 cast-q c = fits-under w8 _ 256 (c .before .of-timed .ensures .1 (c .if1 .left)) tt
@@ -40,11 +38,11 @@ answer-requires-2 : tie.Need-answer-requires-2
 answer-requires-2 c κs = search needs
 
 returns-2 : tie.Need-returns-2
-returns-2 c = λ h. (
+returns-2 c =
     let a = c .before .before .before .before .before .before .before .args in
     let k = a .s in
     let e : c .answer2 .result ≡ cond (mayTake (queueOwnerAt (k .queues) (a .queue)) (k .running)) (receiveOn k (a .queue) (a .time)) (answerIn k 10 0) = rw (c .answer2 .ensures, ← c .before .before .before .owner-at .ensures, ← c .before .before .may-take .ensures, not-true (c .before .before .may-take .result) (c .before .if2 .taken)) refl in
-    e ∙ sym (receive-passed k (a .queue) (a .time) (rw (← c .before .before .before .before .before .before .of-timed .ensures .0) (eq-eqb _ _ (c .before .before .before .before .before .if1 .left)))))
+    e ∙ sym (receive-passed k (a .queue) (a .time) (rw (← c .before .before .before .before .before .before .of-timed .ensures .0) (eq-eqb _ _ (c .before .before .before .before .before .if1 .left))))
 
 used-at-requires : tie.Need-used-at-requires
 used-at-requires c κs = search needs
@@ -53,11 +51,11 @@ take-requires : tie.Need-take-requires
 take-requires c κs = omega (arith, c .before .used-at .ensures, c .if3 .taken)
 
 returns-3 : tie.Need-returns-3
-returns-3 c = λ h. (
+returns-3 c =
     let a = c .before .before .before .before .before .before .before .before .before .args in
     let k = a .s in
-    let e : c .take .result ≡ cond (mayTake (queueOwnerAt (k .queues) (a .queue)) (k .running)) (receiveOn k (a .queue) (a .time)) (answerIn k 10 0) = rw (c .take .ensures (h (timed-there (k .started) (k .running) (k .queues .n) (a .queue) (a .time) (sym (c .before .before .before .before .before .before .before .before .of-timed .ensures .0) ∙ c .before .before .before .before .before .before .before .if1 .left))), ← c .before .before .before .before .before .owner-at .ensures, ← c .before .before .before .before .may-take .ensures, not-false (c .before .before .before .before .may-take .result) (c .before .before .before .if2 .left), ← c .before .before .used-at .ensures, ne-eqb _ _ (c .before .if3 .taken)) refl in
-    e ∙ sym (receive-passed k (a .queue) (a .time) (rw (← c .before .before .before .before .before .before .before .before .of-timed .ensures .0) (eq-eqb _ _ (c .before .before .before .before .before .before .before .if1 .left)))))
+    let e : c .take .result ≡ cond (mayTake (queueOwnerAt (k .queues) (a .queue)) (k .running)) (receiveOn k (a .queue) (a .time)) (answerIn k 10 0) = rw (c .take .ensures, ← c .before .before .before .before .before .owner-at .ensures, ← c .before .before .before .before .may-take .ensures, not-false (c .before .before .before .before .may-take .result) (c .before .before .before .if2 .left), ← c .before .before .used-at .ensures, ne-eqb _ _ (c .before .if3 .taken)) refl in
+    e ∙ sym (receive-passed k (a .queue) (a .time) (rw (← c .before .before .before .before .before .before .before .before .of-timed .ensures .0) (eq-eqb _ _ (c .before .before .before .before .before .before .before .if1 .left))))
 
 of-wait-requires : tie.Need-of-wait-requires
 of-wait-requires c κs = search needs
@@ -67,11 +65,11 @@ answer-requires-3 c κs = search needs
 
 returns-4 : tie.Need-returns-4
 unfolding mayWait
-returns-4 c = λ h. (
+returns-4 c =
     let a = c .before .before .before .before .before .before .before .before .before .before .before .args in
     let k = a .s in
     let e : c .answer3 .result ≡ cond (mayTake (queueOwnerAt (k .queues) (a .queue)) (k .running)) (receiveOn k (a .queue) (a .time)) (answerIn k 10 0) = rw (c .answer3 .ensures, ← c .before .before .before .before .before .before .before .owner-at .ensures, ← c .before .before .before .before .before .before .may-take .ensures, not-false (c .before .before .before .before .before .before .may-take .result) (c .before .before .before .before .before .if2 .left), ← c .before .before .before .before .used-at .ensures, eq-eqb _ _ (c .before .before .before .if3 .left), ← c .before .before .of-wait .ensures, ne-eqb _ _ (c .before .if4 .taken)) refl in
-    e ∙ sym (receive-passed k (a .queue) (a .time) (rw (← c .before .before .before .before .before .before .before .before .before .before .of-timed .ensures .0) (eq-eqb _ _ (c .before .before .before .before .before .before .before .before .before .if1 .left)))))
+    e ∙ sym (receive-passed k (a .queue) (a .time) (rw (← c .before .before .before .before .before .before .before .before .before .before .of-timed .ensures .0) (eq-eqb _ _ (c .before .before .before .before .before .before .before .before .before .if1 .left))))
 
 begin-wait-requires : tie.Need-begin-wait-requires
 begin-wait-requires c κs = search needs
@@ -87,11 +85,11 @@ answer-requires-4 c κs = search needs
 
 returns-5 : tie.Need-returns-5
 unfolding mayWait dispatched blockedOn
-returns-5 c = λ h. (
+returns-5 c =
     let a = c .before .before .before .before .before .before .before .before .before .before .before .before .before .before .before .before .before .args in
     let k = a .s in
     let e : c .answer4 .result ≡ cond (mayTake (queueOwnerAt (k .queues) (a .queue)) (k .running)) (receiveOn k (a .queue) (a .time)) (answerIn k 10 0) = rw (c .answer4 .ensures, c .before .before .dispatch .ensures, c .before .before .before .before .before .push .ensures, c .before .before .before .before .before .before .begin-wait .ensures, ← c .before .before .before .before .before .before .before .before .before .before .before .before .before .owner-at .ensures, ← c .before .before .before .before .before .before .before .before .before .before .before .before .may-take .ensures, not-false (c .before .before .before .before .before .before .before .before .before .before .before .before .may-take .result) (c .before .before .before .before .before .before .before .before .before .before .before .if2 .left), ← c .before .before .before .before .before .before .before .before .before .before .used-at .ensures, eq-eqb _ _ (c .before .before .before .before .before .before .before .before .before .if3 .left), ← c .before .before .before .before .before .before .before .before .of-wait .ensures, eq-eqb _ _ (c .before .before .before .before .before .before .before .if4 .left)) refl in
-    e ∙ sym (receive-passed k (a .queue) (a .time) (rw (← c .before .before .before .before .before .before .before .before .before .before .before .before .before .before .before .before .of-timed .ensures .0) (eq-eqb _ _ (c .before .before .before .before .before .before .before .before .before .before .before .before .before .before .before .if1 .left)))))
+    e ∙ sym (receive-passed k (a .queue) (a .time) (rw (← c .before .before .before .before .before .before .before .before .before .before .before .before .before .before .before .before .of-timed .ensures .0) (eq-eqb _ _ (c .before .before .before .before .before .before .before .before .before .before .before .before .before .before .before .if1 .left))))
 
 pub receive-spec : {M : Type 1} → statement M
 receive-spec =

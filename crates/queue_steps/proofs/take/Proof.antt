@@ -1,8 +1,7 @@
 -- `queue_steps::take` meets its contract.
 use borrow.Author.Needs.{needs}
-use mathlib.Core.Path.{_≡_, refl, ap, sym, _∙_}
+use mathlib.Core.Path.{refl, ap, _∙_}
 use borrow.Author.Tests.{eq-eqb, ne-eqb}
-use Prim.Native.Nat.{ℕ}
 use Rattle.rules.specs.Sizes.{granted}
 use Rattle.record.specs.Setters.{putTasks, putQueues, putWaiting}
 use Rattle.record.specs.declared.State.{State}
@@ -38,7 +37,7 @@ moving-requires c κs = search needs
 
 returns : tie.Need-returns
 unfolding takenIn
-returns c = λ h. rw (c .moving .ensures, c .before .before .set-used .ensures, c .before .before .before .before .before .before .set-oldest .ensures, c .before .before .before .before .before .before .before .next-oldest .ensures h, c .before .taken .ensures, c .before .before .before .used-at .ensures, ← c .before .before .before .before .before .best-for .ensures, eq-eqb _ _ (c .before .before .before .before .if1 .taken)) refl
+returns c = rw (c .moving .ensures, c .before .before .set-used .ensures, c .before .before .before .before .before .before .set-oldest .ensures, c .before .before .before .before .before .before .before .next-oldest .ensures, c .before .taken .ensures, c .before .before .before .used-at .ensures, ← c .before .before .before .before .before .best-for .ensures, eq-eqb _ _ (c .before .before .before .before .if1 .taken)) refl
 
 only-requires : tie.Need-only-requires
 only-requires c κs = search needs
@@ -65,7 +64,7 @@ moving-requires-2 : tie.Need-moving-requires-2
 moving-requires-2 c κs = search needs
 
 returns-2 : tie.Need-returns-2
-returns-2 c = λ h. (
+returns-2 c =
     let a = c .before .before .before .before .before .before .before .before .before .before .before .before .before .before .before .before .before .before .before .args in
     let k = a .s in
     let x = c .before .before .before .before .before .before .before .before .before .before .before .before .before .before .before .before .set-oldest in
@@ -79,7 +78,7 @@ returns-2 c = λ h. (
     ∙ ap (λ (z : State). answerMoving z 0 0 (m .result))
     (sent-turn moved (a .q) (w .result) (c .before .before .before .before .before .before .before .owner-at .result) (flags .result) (putWaiting (putTasks moved (t .result)) (l .result)) (c .before .before .before .before .before .order-with .result) (c .before .before .before .dispatch .result)
     (c .before .before .before .before .before .before .before .owner-at .ensures) (flags .ensures) (woke-parts moved (flags .result) granted granted (t .result) (l .result) (t .ensures) (l .ensures)) (c .before .before .before .before .before .order-with .ensures (x .result) refl) (c .before .before .before .dispatch .ensures))
-    ∙ passes-on k (a .q) (x .result) (c .before .before .before .before .before .before .before .before .before .before .before .before .before .before .before .before .before .next-oldest .result) (w .result) (m .result) (x .ensures) (c .before .before .before .before .before .before .before .before .before .before .before .before .before .before .before .before .before .next-oldest .ensures h) (w .ensures) (m .ensures) (ne-eqb _ _ (c .before .before .before .before .before .before .before .before .before .before .before .before .before .before .if1 .left)))
+    ∙ passes-on k (a .q) (x .result) (c .before .before .before .before .before .before .before .before .before .before .before .before .before .before .before .before .before .next-oldest .result) (w .result) (m .result) (x .ensures) (c .before .before .before .before .before .before .before .before .before .before .before .before .before .before .before .before .before .next-oldest .ensures) (w .ensures) (m .ensures) (ne-eqb _ _ (c .before .before .before .before .before .before .before .before .before .before .before .before .before .before .if1 .left))
 
 pub take-spec : {M : Type 1} → statement M
 take-spec =

@@ -1,11 +1,9 @@
 -- `queue_steps::wait_for_room` meets its contract.
 use borrow.Author.Needs.{needs}
-use mathlib.Core.Path.{_≡_, refl, ap, sym, _∙_}
+use mathlib.Core.Path.{refl, ap, sym, _∙_}
 use borrow.Author.Tests.{eq-eqb, ne-eqb}
 use Prim.Native.Nat.{ℕ}
-use mathlib.Core.List.{List}
-use lib.ListN.{replicate}
-use Rattle.rules.specs.Sizes.{taskPlaces, onSend}
+use Rattle.rules.specs.Sizes.{onSend}
 use Rattle.task_lists.specs.TaskList.{noId}
 use Rattle.record.specs.Setters.{putTasks, putWaiting, putRunning}
 use Rattle.record.specs.declared.State.{State}

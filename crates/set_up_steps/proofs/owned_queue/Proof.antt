@@ -1,13 +1,10 @@
 -- `set_up_steps::owned_queue` meets its contract.
 use borrow.Author.Needs.{needs}
-use mathlib.Core.Path.{sym, ap, _∙_}
+use mathlib.Core.Path.{sym}
 use native.Mathlib.Omega.{arith}
 use borrow.Author.Tests.{eq-eqb, ne-eqb, le-leb, lt-leb}
-use Prim.Native.Nat.{ℕ}
-use Rattle.record.specs.Setters.{putQueues}
-use Rattle.record.specs.declared.Queues.{Queues}
 use Rattle.set_up_steps.proofs.Laws.{made-refused, made-passed}
-use Rattle.machine.specs.Machine.{answerIn, ownedQueueStep}
+use Rattle.machine.specs.Machine.{ownedQueueStep}
 use Rattle.set_up_steps.proofs.owned_queue.Statement.{statement}
 use Rattle.set_up_steps.proofs.owned_queue.Tie as tie
 

@@ -1,14 +1,11 @@
 -- `set_up_steps::queue` meets its contract.
 use borrow.Author.Needs.{needs}
-use mathlib.Core.Path.{sym, ap, _∙_}
+use mathlib.Core.Path.{sym}
 use native.Mathlib.Omega.{arith}
-use borrow.Author.Tests.{eq-eqb, ne-eqb, le-leb, lt-leb}
-use Prim.Native.Nat.{ℕ}
-use Rattle.record.specs.Setters.{putQueues}
-use Rattle.record.specs.declared.Queues.{Queues}
+use borrow.Author.Tests.{eq-eqb, ne-eqb}
 use Rattle.set_up_steps.proofs.Laws.{made-refused, made-passed}
 use Rattle.task_lists.specs.TaskList.{noId}
-use Rattle.machine.specs.Machine.{answerIn, queueStep}
+use Rattle.machine.specs.Machine.{queueStep}
 use Rattle.set_up_steps.proofs.queue.Statement.{statement}
 use Rattle.set_up_steps.proofs.queue.Tie as tie
 

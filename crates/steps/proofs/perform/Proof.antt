@@ -132,87 +132,87 @@ word-requires c κs = search needs
 
 returns : tie.Need-returns
 unfolding machineStep
-returns c = λ h. rw (c .before .before .x .given .1) (c .task .ensures)
+returns c = rw (c .before .before .x .given .1) (c .task .ensures)
 
 returns-2 : tie.Need-returns-2
 unfolding machineStep
-returns-2 c = λ h. rw (c .before .before .x2 .given .1) (c .mutex .ensures)
+returns-2 c = rw (c .before .before .x2 .given .1) (c .mutex .ensures)
 
 returns-3 : tie.Need-returns-3
 unfolding machineStep
-returns-3 c = λ h. rw (c .before .before .x3 .given .1) (c .sem .ensures)
+returns-3 c = rw (c .before .before .x3 .given .1) (c .sem .ensures)
 
 returns-4 : tie.Need-returns-4
 unfolding machineStep
-returns-4 c = λ h. rw (c .before .enum-told .given .1) (c .start .ensures)
+returns-4 c = rw (c .before .enum-told .given .1) (c .start .ensures)
 
 returns-5 : tie.Need-returns-5
 unfolding machineStep
-returns-5 c = λ h. rw (c .before .before .x4 .given .1) (c .lock .ensures)
+returns-5 c = rw (c .before .before .x4 .given .1) (c .lock .ensures)
 
 returns-6 : tie.Need-returns-6
 unfolding machineStep
-returns-6 c = λ h. rw (c .before .before .x5 .given .1) (c .unlock .ensures)
+returns-6 c = rw (c .before .before .x5 .given .1) (c .unlock .ensures)
 
 returns-7 : tie.Need-returns-7
 unfolding machineStep
-returns-7 c = λ h. rw (c .before .before .x6 .given .1) (c .pend .ensures)
+returns-7 c = rw (c .before .before .x6 .given .1) (c .pend .ensures)
 
 returns-8 : tie.Need-returns-8
 unfolding machineStep
-returns-8 c = λ h. rw (c .before .before .x7 .given .1) (c .post .ensures)
+returns-8 c = rw (c .before .before .x7 .given .1) (c .post .ensures)
 
 returns-9 : tie.Need-returns-9
 unfolding machineStep
-returns-9 c = λ h. rw (c .before .before .x8 .given .1) (c .flush .ensures)
+returns-9 c = rw (c .before .before .x8 .given .1) (c .flush .ensures)
 
 returns-10 : tie.Need-returns-10
 unfolding machineStep
-returns-10 c = λ h. rw (c .before .before .x9 .given .1) (c .sleep .ensures)
+returns-10 c = rw (c .before .before .x9 .given .1) (c .sleep .ensures)
 
 returns-11 : tie.Need-returns-11
 unfolding machineStep
-returns-11 c = λ h. rw (c .before .enum-told2 .given .1) (c .yield-now .ensures)
+returns-11 c = rw (c .before .enum-told2 .given .1) (c .yield-now .ensures)
 
 returns-12 : tie.Need-returns-12
 unfolding machineStep
-returns-12 c = λ h. rw (c .before .enum-told3 .given .1) (c .hold .ensures)
+returns-12 c = rw (c .before .enum-told3 .given .1) (c .hold .ensures)
 
 returns-13 : tie.Need-returns-13
 unfolding machineStep
-returns-13 c = λ h. rw (c .before .enum-told4 .given .1) (c .free .ensures)
+returns-13 c = rw (c .before .enum-told4 .given .1) (c .free .ensures)
 
 returns-14 : tie.Need-returns-14
 unfolding machineStep
-returns-14 c = λ h. rw (c .before .enum-told5 .given .1) (c .tick .ensures)
+returns-14 c = rw (c .before .enum-told5 .given .1) (c .tick .ensures)
 
 returns-15 : tie.Need-returns-15
 unfolding machineStep
-returns-15 c = λ h. rw (c .before .before .x10 .given .1) (c .level .ensures)
+returns-15 c = rw (c .before .before .x10 .given .1) (c .level .ensures)
 
 returns-16 : tie.Need-returns-16
 unfolding machineStep
-returns-16 c = λ h. rw (c .before .before .x11 .given .1) (c .outcome .ensures)
+returns-16 c = rw (c .before .before .x11 .given .1) (c .outcome .ensures)
 
 returns-17 : tie.Need-returns-17
 unfolding machineStep
-returns-17 c = λ h. rw (c .before .before .x12 .given .1) (c .queue .ensures)
+returns-17 c = rw (c .before .before .x12 .given .1) (c .queue .ensures)
 
 returns-18 : tie.Need-returns-18
 unfolding machineStep
-returns-18 c = λ h. rw (c .before .before .x13 .given .1) (c .owned-queue .ensures)
+returns-18 c = rw (c .before .before .x13 .given .1) (c .owned-queue .ensures)
 
 returns-19 : tie.Need-returns-19
 unfolding machineStep
-returns-19 c = λ h. rw (c .before .before .x14 .given .1) (c .send .ensures (h .used-in _))
+returns-19 c = rw (c .before .before .x14 .given .1) (c .send .ensures)
 
 returns-20 : tie.Need-returns-20
 unfolding machineStep
-returns-20 c = λ h. rw (c .before .before .x15 .given .1) (c .receive .ensures (h .oldest-in _))
+returns-20 c = rw (c .before .before .x15 .given .1) (c .receive .ensures)
 
 returns-21 : tie.Need-returns-21
 unfolding machineStep
-returns-21 c = λ h. rw (c .before .before .x16 .given .1) (c .word .ensures)
+returns-21 c = rw (c .before .before .x16 .given .1) (c .word .ensures)
 
 pub perform-spec : {M : Type 1} → statement M
 perform-spec =

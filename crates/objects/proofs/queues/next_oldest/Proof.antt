@@ -1,10 +1,7 @@
 -- `objects::queues::next_oldest` meets its contract: the place behind the oldest, or the first where that is the last.
 use borrow.Author.Needs.{needs}
-use mathlib.Core.Path.{_≡_, sym, _∙_}
-use Prim.Native.Nat.{_+_, _≤_, _<_}
-use native.Mathlib.Omega.{arith}
-use Rattle.rings.specs.RingLaws.{slot-plain, slot-round}
-use Rattle.machine.specs.Machine.{oldestAt, depthAt}
+use mathlib.Core.Path.{refl}
+use borrow.Author.Tests.{lt-ltb, le-ltb}
 use Rattle.objects.proofs.queues.next_oldest.Statement.{statement}
 use Rattle.objects.proofs.queues.next_oldest.Tie as tie
 
@@ -27,10 +24,10 @@ cast-result : tie.Need-cast-result
 cast-result c = search needs
 
 returns : tie.Need-returns
-returns c = λ h. sym (slot-plain (oldestAt (c .before .before .before .args .x) (c .before .before .before .args .q)) (depthAt (c .before .before .before .args .x) (c .before .before .before .args .q)) 1 (omega (arith, c .if1 .taken, c .before .depth-at .ensures, c .before .before .oldest-at .ensures)) ∙ omega (arith, c .before .before .oldest-at .ensures))
+returns c = rw (← c .before .before .oldest-at .ensures, ← c .before .depth-at .ensures, lt-ltb _ _ (c .if1 .taken)) refl
 
 returns-2 : tie.Need-returns-2
-returns-2 c = λ h. omega (arith, slot-round (oldestAt (c .before .before .before .args .x) (c .before .before .before .args .q)) (depthAt (c .before .before .before .args .x) (c .before .before .before .args .q)) 1 (omega (arith, c .if1 .left, c .before .depth-at .ensures, c .before .before .oldest-at .ensures)), c .if1 .left, c .before .depth-at .ensures, c .before .before .oldest-at .ensures)
+returns-2 c = rw (← c .before .before .oldest-at .ensures, ← c .before .depth-at .ensures, le-ltb _ _ (c .if1 .left)) refl
 
 pub next-oldest-spec : {M : Type 1} → statement M
 next-oldest-spec =

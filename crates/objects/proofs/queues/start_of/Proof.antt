@@ -1,6 +1,5 @@
 -- `objects::queues::start_of` meets its contract: bytes lead to few words.
 use borrow.Author.Needs.{needs}
-use mathlib.Core.Path.{_≡_}
 use native.Mathlib.Omega.{arith}
 use Rattle.objects.proofs.Facts.{width-byte, depth-byte}
 use Rattle.objects.proofs.Laws.{start-in-small}

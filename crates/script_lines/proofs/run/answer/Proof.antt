@@ -1,7 +1,8 @@
--- `answer`: what was read is no step, or what the kernel plans for it.
-use mathlib.Core.Path.{sym, subst}
-use Rattle.script_lines.specs.LineRun.{Answers}
-use Rattle.script_lines.specs.LineRunLaws.{malformed-answers, made-answers}
+-- `answer`: what was read is no step, or it is planned as `Planning.planned` says.
+use mathlib.Core.Path.{refl}
+use borrow.Author.Tests.{not-true, not-false}
+use Rattle.kernel.specs.Planning.{planned}
+use Rattle.script_lines.specs.LineRun.{planRead}
 use borrow.Author.Needs.{needs}
 use Rattle.script_lines.proofs.run.answer.Statement.{statement}
 use Rattle.script_lines.proofs.run.answer.Tie as tie
@@ -19,18 +20,46 @@ stay-requires : tie.Need-stay-requires
 stay-requires c κs = search needs
 
 returns : tie.Need-returns
-returns c =
-    let a = c .before .before .before .before .before .args in
-    subst (Answers (a .sound) (a .s) (a .words .now) (a .space) (a .line)) (sym (c .stay .ensures))
-    (malformed-answers (a .sound) (a .s) (a .words .now) (a .space) (a .line) (c .before .before .enum-told .given .1) _ (c .before .malformed .ensures))
+unfolding planRead
+returns c = rw (c .before .before .enum-told .given .1, c .stay .ensures, c .before .malformed .ensures) refl
 
-plan-requires : tie.Need-plan-requires
-plan-requires c κs = search needs
+is-formed-requires : tie.Need-is-formed-requires
+is-formed-requires c κs = search needs
+
+malformed-requires-2 : tie.Need-malformed-requires-2
+malformed-requires-2 c κs = search needs
+
+stay-requires-2 : tie.Need-stay-requires-2
+stay-requires-2 c κs = search needs
 
 returns-2 : tie.Need-returns-2
+unfolding planRead planned
 returns-2 c =
-    let a = c .before .before .before .before .before .args in
-    made-answers (a .sound) (a .s) (a .words .now) (a .space) (a .line) _ (c .before .before .reading .given .1) _ (c .plan .ensures)
+    let formed = c .before .before .before .is-formed in
+    rw (c .before .before .before .before .before .reading .given .1, c .stay2 .ensures, c .before .malformed2 .ensures, ← formed .ensures, not-true (formed .result) (c .before .before .if1 .taken)) refl
+
+unsound-requires : tie.Need-unsound-requires
+unsound-requires c κs = search needs
+
+stay-requires-3 : tie.Need-stay-requires-3
+stay-requires-3 c κs = search needs
+
+returns-3 : tie.Need-returns-3
+unfolding planRead planned
+returns-3 c =
+    let formed = c .before .before .before .before .is-formed in
+    let a = c .before .before .before .before .before .before .before .before .before .args in
+    rw (c .before .before .before .before .before .before .reading .given .1, c .stay3 .ensures, c .before .unsound .ensures, ← formed .ensures, not-false (formed .result) (c .before .before .before .if1 .left), not-true (a .sound) (c .before .before .if2 .taken)) refl
+
+perform-requires : tie.Need-perform-requires
+perform-requires c κs = search needs
+
+returns-4 : tie.Need-returns-4
+unfolding planRead planned
+returns-4 c =
+    let formed = c .before .before .before .is-formed in
+    let a = c .before .before .before .before .before .before .before .before .args in
+    rw (c .before .before .before .before .before .reading .given .1, c .perform .ensures, ← formed .ensures, not-false (formed .result) (c .before .before .if1 .left), not-false (a .sound) (c .before .if2 .left)) refl
 
 pub answer-spec : {M : Type 1} → statement M
 answer-spec =
@@ -41,5 +70,12 @@ answer-spec =
     malformed-requires
     stay-requires
     returns
-    plan-requires
-    returns-2)
+    is-formed-requires
+    malformed-requires-2
+    stay-requires-2
+    returns-2
+    unsound-requires
+    stay-requires-3
+    returns-3
+    perform-requires
+    returns-4)
