@@ -8,16 +8,17 @@ use native.Mathlib.Omega.{arith}
 use native.Mathlib.Decide.{decLt}
 use lib.Dec.{ltb, eqb}
 use lib.ListN.{length, getD, List·getD-eq-default}
-use borrow.Author.Tests.{eqb-true, not-true, lt-ltb, le-ltb}
+use borrow.Author.Tests.{eqb-true, lt-ltb, le-ltb}
 use Rattle.lists.specs.Test.{_and_, _or_, allb}
 use Rattle.lists.specs.Table.{filled}
-use Rattle.lists.specs.TestLaws.{which, or-none, all-true, all-same, all-and}
+use Rattle.lists.specs.TestLaws.{which, all-true, all-same, all-and}
 use Rattle.lists.specs.TableLaws.{read-any, getD-filled}
 use Rattle.rules.specs.Sizes.{taskPlaces, maxMutexes, maxSemaphores, levels, onMutex, onSemaphore}
 use Rattle.task_lists.specs.TaskList.{noId, usedPlaces, idFits, idFitsAt, idFitsBy}
 use Rattle.task_lists.specs.TaskListLaws.{used-flag}
 use Rattle.walks.specs.Walk.{lent, lentBy}
 use Rattle.record.specs.Reads.{ledBy, leadsNowhereAt, heirAt}
+use Rattle.record.specs.ReadLaws.{led-none}
 use Rattle.checks.specs.Checks.{unusedAt, unusedBy, unusedIn, priorityAt, priorityFitsBy, othersUnused, waitFitsAt, timeFitsAt, outcomeFitsAt, tasksIn, blockedBy, blockedAt, blockedFits, blockedFitsAt, emptyAt, atObject, sameAt, levelsIn}
 use Rattle.record.specs.declared.Tasks.{Tasks}  -- keep
 use Rattle.record.specs.declared.Mutexes.{Mutexes}  -- keep
@@ -105,11 +106,6 @@ blocked-tables waits objects owners queues counts n g = all-same _ _ _ _ refl (�
       getD-filled maxSemaphores (emptyAt counts) 0 (getD objects i 0 % maxSemaphores) (omega arith),
     )
     (blocked-task (getD waits i 0) (getD objects i 0) n owners queues counts g))
-
--- a wait for something else leads to nobody
-led-none : (mutexes queues waits objects : List ℕ) (i : ℕ) → leadsNowhereAt waits i ≡ true → ledBy mutexes queues (getD waits i 0) (getD objects i 0) ≡ noId
-unfolding ledBy
-led-none mutexes queues waits objects i e = let n = or-none _ _ (not-true _ e) in rw (n .0, n .1) refl
 
 -- where nobody is lent anything, levels are own priorities
 lent-none : (own to level : List ℕ) (n : ℕ) → ((i : ℕ) → i < n → getD to i 0 ≡ noId) → lentBy own to level n ≡ own

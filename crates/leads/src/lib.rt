@@ -45,9 +45,8 @@ fn led_to(kind: u8, object: u8, holder: u8, receiver: u8) -> u8
     receiver
 }
 
-// Whom each task leads to; `mutexes` says whom a wait for each mutex leads to: its owner, or only an heir; `queues` whom a wait to send to each
-// queue does. The tables are read whatever the kind of wait is, so that no branch hangs on it.
-pub fn leads_of<'a>(
+// Whom each task leads to, one after another. The tables are read whatever the kind of wait is, so that no branch hangs on it.
+fn each_leads<'a>(
     wait: &'a [u8; TASKS],
     object: &'a [u8; TASKS],
     mutexes: [u8; MUTEXES],
@@ -81,6 +80,22 @@ pub fn none_waits(wait: &[u8; TASKS]) -> bool
         none = flags::both(leads_nowhere(wait[i]), none);
     }
     none
+}
+
+// Whom each task leads to; `mutexes` says whom a wait for each mutex leads to: its owner, or only an heir; `queues` whom a wait to send to each
+// queue does. Where nobody leads to anybody, which is seen at once, tasks aren't looked at one by one.
+pub fn leads_of<'a>(
+    wait: &'a [u8; TASKS],
+    object: &'a [u8; TASKS],
+    mutexes: [u8; MUTEXES],
+    queues: [u8; QUEUES],
+) -> [u8; TASKS]
+    ensures { λ r. ⌜ r ≡ filled taskPlaces (λ i. ledBy mutexes queues (getD (now (wait .entry)) i 0) (getD (now (object .entry)) i 0)) ⌝ }
+{
+    if none_waits(wait) {
+        return [NONE; TASKS];
+    }
+    each_leads(wait, object, mutexes, queues)
 }
 
 // Who is lent the levels of those that wait for a mutex: its owner, where it is inheriting.

@@ -1,6 +1,7 @@
 -- Reading the packed tables: each place holds the code of what the rules' tables hold, and the code's levels are the levels.
 use mathlib.Core.Path.{_≡_, refl, ap, sym, _∙_, fun-ext}
 use mathlib.Core.List.{List, [], map}
+use mathlib.Core.Bool.{true}
 use mathlib.Core.Logic.{inl, inr}
 use mathlib.Core.Option.{Option, none, some}
 use Prim.Native.Nat.{ℕ, _≤_, min}
@@ -9,8 +10,9 @@ use native.Mathlib.Decide.{decLt}
 use lib.Dec.{eqb}
 use lib.ListN.{length, getD, List·getD-eq-default, List·getD-map}
 use lib.Seq.{ext-getD}
+use borrow.Author.Tests.{not-true}
 use Rattle.lists.specs.Table.{filled}
-use Rattle.lists.specs.TestLaws.{which, by-test}
+use Rattle.lists.specs.TestLaws.{which, by-test, or-none}
 use Rattle.lists.specs.TableLaws.{length-filled, getD-filled, length-pad, getD-pad}
 use Rattle.chains.specs.Least.{leadsTo, leastLeading}
 use Rattle.chains.specs.LeastLaws.{least-start}
@@ -24,7 +26,7 @@ use Rattle.walks.specs.Walk.{taskAt, nextIn, raised}
 use Rattle.walks.specs.WalkLaws.{next-in, next-out, length-raised, raised-ext, raised-out}
 use Rattle.record.specs.Record.{kindCode, objectCode, timedCode, dueCode, packTasks, packMutexes, packSemaphores, packQueues, pack}
 use Rattle.record.specs.Setters.{putLevel}
-use Rattle.record.specs.Reads.{ownerAt, kindAt, queueOwnerAt, ledBy, leadsAt, nextAt, heirAt, lendsAt, newLevels, countAt, maximumAt}
+use Rattle.record.specs.Reads.{ownerAt, kindAt, queueOwnerAt, ledBy, leadsAt, leadsNowhereAt, nextAt, heirAt, lendsAt, newLevels, countAt, maximumAt}
 use Rattle.record.specs.PackLaws.{levelColumn, packWith, task-back}
 use Rattle.record.specs.ViewLaws.{Leading}
 use Rattle.rules.specs.State.{State as Model}  -- keep
@@ -221,3 +223,8 @@ module _ (s : Model) (F : Facts (s .tables)) where
 pub level-pack : (s : Model) (o : List ℕ) (i : ℕ) → keyOf ((pack o s) .tasks .level) i ≡ levelIn (s .tables) i
 unfolding pack
 level-pack s o i = level-read (s .tables) (s .clock) i
+
+-- a wait for no mutex and not to send leads to nobody
+pub led-none : (mutexes queues waits objects : List ℕ) (i : ℕ) → leadsNowhereAt waits i ≡ true → ledBy mutexes queues (getD waits i 0) (getD objects i 0) ≡ noId
+unfolding ledBy
+led-none mutexes queues waits objects i e = let n = or-none _ _ (not-true _ e) in rw (n .0, n .1) refl
