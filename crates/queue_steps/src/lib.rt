@@ -141,11 +141,11 @@ pub fn send(s: State, queue: u32, time: u32, count: usize) -> Plan
     wait_for_room(s, q, time)
 }
 
-// The oldest message, moved to the words of the task that takes it.
-fn taken(x: Queues, q: u8, task: u8) -> Move
-    ensures { λ r. ⌜ r ≡ Take (placeAt x q 0) (widthAt x q) task ⌝ }
+// The message k behind the oldest one, moved to the words of the task that takes it.
+fn taken(x: Queues, q: u8, k: u8, task: u8) -> Move
+    ensures { λ r. ⌜ r ≡ Take (placeAt x q k) (widthAt x q) task ⌝ }
 {
-    let place = queues::place_of(x, q, 0);
+    let place = queues::place_of(x, q, k);
     let width = queues::width_at(x, q);
     Move::Take {
         place: place,
@@ -154,7 +154,7 @@ fn taken(x: Queues, q: u8, task: u8) -> Move
     }
 }
 
-// The same, and a waiting sender's message goes to the place that it leaves: the tail of a full ring.
+// The oldest message so moved, and a waiting sender's message goes to the place that it leaves: the tail of a full ring.
 fn swapped(x: Queues, q: u8, task: u8, sender: u8) -> Move
     ensures { λ r. ⌜ r ≡ Swap (placeAt x q 0) (widthAt x q) task sender ⌝ }
 {
@@ -178,8 +178,9 @@ fn take(mut s: State, q: u8) -> Plan
     let moved = objects::set_oldest(x, q, queues::next_oldest(x, q));
     let best = waits::best_for(s.tasks, s.waiting, ON_SEND, q);
     if best == NONE {
-        s.queues = objects::set_used(moved, q, queues::used_at(x, q) - 1);
-        return answers::moving(s, 0, 0, taken(x, q, caller));
+        let left = queues::used_at(x, q) - 1;
+        s.queues = objects::set_used(moved, q, left);
+        return answers::moving(s, 0, 0, taken(x, q, 0, caller));
     }
     s.queues = moved;
     let flags = waits::only(best);

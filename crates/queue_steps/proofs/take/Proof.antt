@@ -23,8 +23,8 @@ best-for-requires c κs = search needs
 used-at-requires : tie.Need-used-at-requires
 used-at-requires c κs = search needs
 
-sub-set-used : tie.Need-sub-set-used
-sub-set-used c = omega (arith, c .used-at .ensures, c .before .before .before .before .before .before .pre)
+sub-left : tie.Need-sub-left
+sub-left c = omega (arith, c .used-at .ensures, c .before .before .before .before .before .before .pre)
 
 set-used-requires : tie.Need-set-used-requires
 set-used-requires c κs = search needs
@@ -88,7 +88,7 @@ take-spec =
     set-oldest-requires
     best-for-requires
     used-at-requires
-    sub-set-used
+    sub-left
     set-used-requires
     taken-requires
     moving-requires
