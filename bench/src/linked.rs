@@ -7,42 +7,30 @@ use std::ffi::c_void;
 pub type StepFunction =
     unsafe extern "C" fn(*mut c_void, u32, u32, u32, u32, *const u32, u64, *mut u32, u64) -> u64;
 
+/// The functions that make a step so: the lean kernel's, the library's, and one that makes none.
+macro_rules! step_functions {
+    ($($name:ident),*) => {
+        extern "C" {
+            $(pub fn $name(
+                k: *mut c_void,
+                code: u32,
+                a: u32,
+                b: u32,
+                c: u32,
+                message: *const u32,
+                count: u64,
+                block: *mut u32,
+                block_words: u64,
+            ) -> u64;)*
+        }
+    };
+}
+
+step_functions!(lean_step, cungkalisa_step, stack_no_step);
+
 extern "C" {
     static lean_size: usize;
     fn lean_fresh(k: *mut c_void);
-    pub fn lean_step(
-        k: *mut c_void,
-        code: u32,
-        a: u32,
-        b: u32,
-        c: u32,
-        message: *const u32,
-        count: u64,
-        block: *mut u32,
-        block_words: u64,
-    ) -> u64;
-    pub fn cungkalisa_step(
-        k: *mut c_void,
-        code: u32,
-        a: u32,
-        b: u32,
-        c: u32,
-        message: *const u32,
-        count: u64,
-        block: *mut u32,
-        block_words: u64,
-    ) -> u64;
-    pub fn stack_no_step(
-        k: *mut c_void,
-        code: u32,
-        a: u32,
-        b: u32,
-        c: u32,
-        message: *const u32,
-        count: u64,
-        block: *mut u32,
-        block_words: u64,
-    ) -> u64;
     fn stack_of_step(made: *const Made, pattern: u8) -> usize;
     fn stack_lower(bytes: usize, work: extern "C" fn(*mut c_void), data: *mut c_void);
 }

@@ -42,7 +42,6 @@ pub struct Bytes {
     pub words: [u32; 128],
 }
 
-
 const _: () = assert!(size_of::<StateBytes>() == size_of::<Record>());
 const _: () = assert!(size_of::<Bytes>() == size_of::<Kept>());
 const _: () = assert!(align_of::<Bytes>() == align_of::<Kept>());
