@@ -118,6 +118,12 @@ module _ {next : ℕ → Option ℕ} where
   true-ends (link c) zero h = absurd (omega arith)
   true-ends (link c) (suc f) h = true-ends c f (omega arith)
 
+-- the chain from nobody ends
+pub ends-none : (next : ℕ → Option ℕ) (f : ℕ) → endsb f next none ≡ true
+unfolding endsb
+ends-none next zero = refl
+ends-none next (suc f) = refl
+
 pub walk-none : (next : ℕ → Option ℕ) (f : ℕ) → walk f next none ≡ []
 unfolding walk
 walk-none next zero = refl

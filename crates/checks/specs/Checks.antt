@@ -63,6 +63,10 @@ waitFits kind object timed = leb kind onReceive and (eqb object 0 or isObjectWai
 abbrev pub waitFitsAt : List ℕ → List ℕ → List ℕ → ℕ → Bool
 waitFitsAt waits objects timed i = waitFits (getD waits i 0) (getD objects i 0) (getD timed i 0)
 
+-- a task waits for no object: it waits for time, or not at all
+abbrev pub noObjectAt : List ℕ → ℕ → Bool
+noObjectAt waits i = not (isObjectWait (getD waits i 0))
+
 -- its time: 1 to 2147483647 ticks left, or none, and then it isn't a sleep
 unfoldable pub timeFits : ℕ → ℕ → ℕ → ℕ → Bool
 timeFits kind timed due clock = cond (eqb timed 1)

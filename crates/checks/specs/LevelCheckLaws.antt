@@ -15,7 +15,7 @@ use Rattle.lists.specs.Table.{filled}
 use Rattle.lists.specs.TestLaws.{none-some, and-l, and-r, true-and, all-true, true-all, same-test}
 use Rattle.chains.specs.Chain.{end, endsb}
 use Rattle.chains.specs.Least.{least, Recursive}
-use Rattle.chains.specs.ChainLaws.{chain-short, true-ends}
+use Rattle.chains.specs.ChainLaws.{chain-short, true-ends, ends-none}
 use Rattle.chains.specs.LeastLaws.{least-start}
 use Rattle.rules.specs.Sizes.{taskPlaces, maxMutexes, maxQueues}
 use Rattle.rules.specs.Tables.{Tables, taskCount, priorityOf, waitOf, ownerOf, queueOwnerOf}
@@ -36,10 +36,6 @@ use Rattle.record.specs.ViewLaws.{stored-level, unused-owner, view-tasks, view-
 use Rattle.checks.specs.Checks.{ringless, sameAt, levelsIn}
 use Rattle.checks.specs.TableCheckLaws.{owner-read, queue-owner-any}
 use Rattle.record.specs.declared.State.{State}  -- keep
-
--- the chain from nobody ends, with whatever fuel
-ends-none : (f : ℕ → Option ℕ) (n : ℕ) → endsb n f none ≡ true
-ends-none f n = true-ends {next = f} end n (omega arith)
 
 -- where the chain of each owner ends, that of each task does
 owners-ring : (t : Tables) → ((m o : ℕ) → ownerOf t m ≡ some o → endsb (taskCount t) (next t) (some o) ≡ true)

@@ -1,8 +1,9 @@
 -- Tests by flags and by tables made beforehand are the tests by counts and columns.
 use mathlib.Core.Path.{_≡_, refl, ap, _∙_}
-use mathlib.Core.Logic.{inl, inr}
+use mathlib.Core.Logic.{_⊎_, inl, inr}
 use mathlib.Core.List.{List}
 use mathlib.Core.Bool.{Bool, true, false, cond, not}
+use mathlib.Core.Option.{none}
 use Prim.Native.Nat.{ℕ, zero, suc, _%_, _<_}
 use native.Mathlib.Omega.{arith}
 use native.Mathlib.Decide.{decLt}
@@ -11,17 +12,21 @@ use lib.ListN.{length, getD, List·getD-eq-default}
 use borrow.Author.Tests.{eqb-true, lt-ltb, le-ltb}
 use Rattle.lists.specs.Test.{_and_, _or_, allb}
 use Rattle.lists.specs.Table.{filled}
-use Rattle.lists.specs.TestLaws.{which, all-true, all-same, all-and}
+use Rattle.lists.specs.TestLaws.{clash, which, true-and, all-true, true-all, all-same, all-and}
 use Rattle.lists.specs.TableLaws.{read-any, getD-filled}
-use Rattle.rules.specs.Sizes.{taskPlaces, maxMutexes, maxSemaphores, levels, onMutex, onSemaphore}
+use Rattle.chains.specs.Chain.{endsb}
+use Rattle.chains.specs.ChainLaws.{ends-none}
+use Rattle.rules.specs.Sizes.{taskPlaces, maxMutexes, maxSemaphores, maxQueues, levels, onMutex, onSemaphore, onTime}
 use Rattle.task_lists.specs.TaskList.{noId, usedPlaces, idFits, idFitsAt, idFitsBy}
 use Rattle.task_lists.specs.TaskListLaws.{used-flag}
-use Rattle.walks.specs.Walk.{lent, lentBy}
+use Rattle.walks.specs.Walk.{taskAt, nextIn, lent, lentBy}
 use Rattle.record.specs.Reads.{ledBy, leadsNowhereAt, heirAt}
 use Rattle.record.specs.ReadLaws.{led-none}
-use Rattle.checks.specs.Checks.{unusedAt, unusedBy, unusedIn, priorityAt, priorityFitsBy, othersUnused, waitFitsAt, timeFitsAt, outcomeFitsAt, tasksIn, blockedBy, blockedAt, blockedFits, blockedFitsAt, emptyAt, atObject, sameAt, levelsIn}
+use Rattle.record.specs.SoundRecord.{isObjectWait}
+use Rattle.checks.specs.Checks.{unusedAt, unusedBy, unusedIn, priorityAt, priorityFitsBy, othersUnused, waitFitsAt, timeFitsAt, outcomeFitsAt, tasksIn, noObjectAt, blockedBy, blockedAt, blockedIn, blockedFits, blockedFitsAt, emptyAt, atObject, queueWaitFits, queueWaitsIn, ringless, waitsIn, sameAt, levelsIn}
 use Rattle.record.specs.declared.Tasks.{Tasks}  -- keep
 use Rattle.record.specs.declared.Mutexes.{Mutexes}  -- keep
+use Rattle.record.specs.declared.Semaphores.{Semaphores}  -- keep
 use Rattle.record.specs.declared.Queues.{Queues}  -- keep
 
 pub unused-same : (column : List ℕ) (n : ℕ) → allb taskPlaces (unusedBy column (usedPlaces n)) ≡ allb taskPlaces (unusedAt column n)
@@ -122,3 +127,41 @@ levels-none own level waits objects m x e =
     let to : ℕ → ℕ = λ i. ledBy heirs (x .owner) (getD waits i 0) (getD objects i 0) in
     ap (λ (l : List ℕ). allb taskPlaces (sameAt level l)) (lent-none own (filled taskPlaces to) level taskPlaces
     (λ i h. getD-filled taskPlaces to 0 i h ∙ led-none heirs (x .owner) waits objects i (all-true taskPlaces (leadsNowhereAt waits) e i h)))
+
+-- a wait for no object is none, or for time
+no-object : (kind : ℕ) → not (isObjectWait kind) ≡ true → (kind ≡ 0) ⊎ (kind ≡ onTime)
+unfolding isObjectWait _and_
+no-object kind e = elim (which (eqb kind 0)) [
+  | inl u ↦ inl (eqb-true kind 0 u)
+  | inr u ↦ elim (which (eqb kind onTime)) [ inl v ↦ inr (eqb-true kind onTime v) | inr v ↦ absurd (clash e (rw (u, v) refl)) ]
+]
+
+-- where no task leads to another, each chain has at most one link
+one-link : (next : List ℕ) (n o : ℕ) → ltb 0 n ≡ true → ((i : ℕ) → i < taskPlaces → getD next i 0 ≡ noId) → endsb n (nextIn next) (taskAt o) ≡ true
+unfolding endsb
+one-link next zero o p g = absurd (clash p refl)
+one-link next (suc n) o p g = elim (decLt o taskPlaces) [
+  | yes h ↦ (let e : nextIn next o ≡ none = rw (lt-ltb o taskPlaces h, g o h) refl in rw (lt-ltb o taskPlaces h) (ap (endsb n (nextIn next)) e ∙ ends-none (nextIn next) n))
+  | no h ↦ rw (le-ltb o taskPlaces (omega arith)) refl
+]
+
+-- where nobody waits for an object, waits are as they should be, and there is no ring
+pub waits-none : (waits objects : List ℕ) (m : Mutexes) (c : Semaphores) (x : Queues) (words : List ℕ) (n : ℕ) → ltb 0 n ≡ true
+    → allb taskPlaces (noObjectAt waits) ≡ true → waitsIn waits objects m c x words n ≡ true
+unfolding waitsIn blockedIn blockedBy queueWaitsIn queueWaitFits ringless _or_
+waits-none waits objects m c x words n p e =
+    true-and _ _ (true-all taskPlaces _ (λ i h. elim (kind i h) [ inl u ↦ rw u refl | inr u ↦ rw u refl ]))
+    (true-and _ _ (true-all taskPlaces _ (λ i h. elim (kind i h) [ inl u ↦ rw u refl | inr u ↦ rw u refl ]))
+    (true-and _ _ (true-all maxMutexes _ (λ j h. one-link next n (getD (m .owner) j 0) p alone)) (true-all maxQueues _ (λ j h. one-link next n (getD (x .owner) j 0) p alone))))
+  where
+    kind : (i : ℕ) → i < taskPlaces → (getD waits i 0 ≡ 0) ⊎ (getD waits i 0 ≡ onTime)
+    kind i h = no-object (getD waits i 0) (all-true taskPlaces (noObjectAt waits) e i h)
+
+    to : ℕ → ℕ
+    to i = ledBy (m .owner) (x .owner) (getD waits i 0) (getD objects i 0)
+
+    next : List ℕ
+    next = filled taskPlaces to
+
+    alone : (i : ℕ) → i < taskPlaces → getD next i 0 ≡ noId
+    alone i h = getD-filled taskPlaces to 0 i h ∙ led-none (m .owner) (x .owner) waits objects i (elim (kind i h) [ inl u ↦ rw u refl | inr u ↦ rw u refl ])

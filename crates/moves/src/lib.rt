@@ -35,7 +35,7 @@ pub enum Move {
 }
 
 // A word of s, or 0 where s has none there.
-fn word(s: &[u32], i: usize) -> u32
+pub fn word(s: &[u32], i: usize) -> u32
     ensures { λ r. ⌜ r ≡ getD (now (s .entry)) i 0 ⌝ }
 {
     if i < s.len() {

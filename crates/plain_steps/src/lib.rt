@@ -1,6 +1,5 @@
 // Yield, hold and free, level, outcome, word: the refusals in the order of the table, then what the step does.
 ghost use mathlib.Core.Path.{_≡_};
-ghost use lib.ListN.{getD};
 ghost use Rattle.machine.specs.Machine.{yieldStep, holdStep, freeStep, levelStep, outcomeStep, wordStep};
 use record::EIGHT;
 use record::MAX_HOLD;
@@ -91,16 +90,6 @@ pub fn outcome(s: State, task: u32) -> Plan
     answers::answer(s, 0, v as u32)
 }
 
-// A word of a lent table, or 0 where it has none there.
-fn word_in(words: &[u32], i: usize) -> u32
-    ensures { λ r. ⌜ r ≡ getD (now (words .entry)) i 0 ⌝ }
-{
-    if i < words.len() {
-        return words[i];
-    }
-    0
-}
-
 // A word that a task holds; `words` has eight for each task.
 pub fn word(s: State, task: u32, n: u32, words: &[u32]) -> Plan
     ensures { λ r. ⌜ r ≡ wordStep s task n (now (words .entry)) ⌝ }
@@ -111,6 +100,6 @@ pub fn word(s: State, task: u32, n: u32, words: &[u32]) -> Plan
     if EIGHT as u32 <= n {
         return answers::answer(s, 7, 0);
     }
-    let v = word_in(words, EIGHT * (task as usize) + (n as usize));
+    let v = moves::word(words, EIGHT * (task as usize) + (n as usize));
     answers::answer(s, 0, v)
 }

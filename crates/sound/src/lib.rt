@@ -138,7 +138,8 @@ fn places_in(wait: &[u8; TASKS], ready: TaskList, waiting: TaskList, n: u8, runn
     sound_places::places(wait, &waits, &all, n, running)
 }
 
-// Waits are for what isn't available, and there is "no ring of waits".
+// Waits are for what isn't available, and there is "no ring of waits". Where nobody waits for an object, which is seen at once, tables aren't looked at:
+// a chain that leads to nobody has one link, so it ends where there is a task.
 fn waits_in<'a>(
     wait: &'a [u8; TASKS],
     object: &'a [u8; TASKS],
@@ -150,6 +151,9 @@ fn waits_in<'a>(
 ) -> bool
     ensures { λ r. ⌜ r ≡ waitsIn (now (wait .entry)) (now (object .entry)) m c x (now (words .entry)) n ⌝ }
 {
+    if flags::both(0 < n, sound_tables::none_for_objects(wait)) {
+        return true;
+    }
     let owner = m.owner;
     let queues = x.owner;
     let next = leads::leads_of(wait, object, owner, queues);

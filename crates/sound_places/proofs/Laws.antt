@@ -1,14 +1,14 @@
 -- Where nothing is owned the chain of every owner ends.
-use mathlib.Core.Path.{_≡_, refl, sym}
+use mathlib.Core.Path.{_≡_, sym}
 use mathlib.Core.List.{List}
 use mathlib.Core.Bool.{Bool, true}
-use mathlib.Core.Option.{Option, none}
-use Prim.Native.Nat.{ℕ, zero, suc}
+use Prim.Native.Nat.{ℕ}
 use lib.ListN.{getD}
 use borrow.Author.Tests.{eqb-true}
 use Rattle.lists.specs.Test.{allb}
 use Rattle.lists.specs.TestLaws.{all-true, true-all}
 use Rattle.chains.specs.Chain.{endsb}
+use Rattle.chains.specs.ChainLaws.{ends-none}
 use Rattle.rules.specs.Sizes.{maxMutexes}
 use Rattle.task_lists.specs.TaskList.{noId}
 use Rattle.walks.specs.Walk.{taskAt, nextIn}
@@ -18,12 +18,6 @@ use Rattle.checks.specs.Checks.{freeAt}
 abbrev pub endsFrom : List ℕ → List ℕ → ℕ → ℕ → Bool
 endsFrom next owners n j = endsb n (nextIn next) (taskAt (getD owners j 0))
 
--- nobody's chain ends
-nobody-ends : (n : ℕ) (next : ℕ → Option ℕ) → endsb n next none ≡ true
-unfolding endsb
-nobody-ends zero next = refl
-nobody-ends (suc n) next = refl
-
 pub free-ends : (next owners : List ℕ) (n : ℕ) → allb maxMutexes (freeAt owners) ≡ true → true ≡ allb maxMutexes (endsFrom next owners n)
 free-ends next owners n e = sym (true-all maxMutexes (endsFrom next owners n) (λ j h.
-    rw (eqb-true (getD owners j 0) noId (all-true maxMutexes (freeAt owners) e j h)) (nobody-ends n (nextIn next))))
+    rw (eqb-true (getD owners j 0) noId (all-true maxMutexes (freeAt owners) e j h)) (ends-none (nextIn next) n)))

@@ -1,23 +1,12 @@
 // The words that tasks hold, eight for each, lent beside the record: a lent slice may have any length.
 ghost use mathlib.Core.Path.{_≡_};
 ghost use Prim.Native.Nat.{_*_, min};
-ghost use lib.ListN.{getD};
 ghost use Rattle.lists.specs.Test.{allb};
 ghost use Rattle.rules.specs.Sizes.{taskPlaces, heldWords};
 ghost use Rattle.record.specs.SoundRecord.{wordsTidyb};
 ghost use Rattle.checks.specs.Checks.{unusedAt, pastAt};
 use record::EIGHT;
 use record::WORDS;
-
-// A word, or 0 where there is none.
-fn word(words: &[u32], k: usize) -> u32
-    ensures { λ r. ⌜ r ≡ getD (now (words .entry)) k 0 ⌝ }
-{
-    if k < words.len() {
-        return words[k];
-    }
-    0
-}
 
 // Task `i` holds 0 past the first `width` of its words.
 pub fn past(words: &[u32], i: u8, width: u8) -> bool
@@ -27,7 +16,7 @@ pub fn past(words: &[u32], i: u8, width: u8) -> bool
     let wide = width as usize;
     let mut fits = true;
     for n in 0..EIGHT {
-        let zero = word(words, first + n) == 0;
+        let zero = moves::word(words, first + n) == 0;
         fits = flags::both(flags::either(n < wide, zero), fits);
     }
     fits

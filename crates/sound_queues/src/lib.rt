@@ -58,17 +58,6 @@ pub fn all_empty(used: &[u8; QUEUES]) -> bool
     fits
 }
 
-// Has no place an owner?
-fn none_owned(owner: &[u8; QUEUES]) -> bool
-    ensures { λ r. ⌜ r ≡ allb maxQueues (freeAt (now (owner .entry))) ⌝ }
-{
-    let mut fits = true;
-    for q in 0..QUEUES {
-        fits = flags::both(owner[q] == NONE, fits);
-    }
-    fits
-}
-
 // Every place is as in the fresh record.
 fn none_made(x: Queues) -> bool
     ensures { λ r. ⌜ r ≡ allb maxQueues (unusedAt (x .width) 0) and allb maxQueues (unusedAt (x .depth) 0) and allb maxQueues (freeAt (x .owner)) and allb maxQueues (unusedAt (x .oldest) 0) and allb maxQueues (unusedAt (x .used) 0) ⌝ }
@@ -79,7 +68,7 @@ fn none_made(x: Queues) -> bool
     let oldest = x.oldest;
     let used = x.used;
     let ring = flags::both(all_empty(&oldest), all_empty(&used));
-    let rest = flags::both(none_owned(&owner), ring);
+    let rest = flags::both(sound_objects::all_free(&owner), ring);
     flags::both(all_empty(&width), flags::both(all_empty(&depth), rest))
 }
 

@@ -2,7 +2,8 @@
 ghost use mathlib.Core.Path.{_≡_};
 ghost use Rattle.lists.specs.Test.{allb};
 ghost use Rattle.rules.specs.Sizes.{taskPlaces};
-ghost use Rattle.checks.specs.Checks.{unusedBy, priorityFitsBy, waitFits, waitFitsAt, timeFits, timeFitsAt, outcomeFits, outcomeFitsAt};
+ghost use Rattle.record.specs.SoundRecord.{isObjectWait};
+ghost use Rattle.checks.specs.Checks.{unusedBy, priorityFitsBy, waitFits, waitFitsAt, noObjectAt, timeFits, timeFitsAt, outcomeFits, outcomeFitsAt};
 use record::FLUSHED;
 use record::GRANTED;
 use record::LEVELS;
@@ -40,12 +41,18 @@ pub fn priorities<'a>(priority: &'a [u8; TASKS], used: &'a [u8; TASKS]) -> bool
     fits
 }
 
+// A wait of this kind is for an object.
+fn for_object(kind: u8) -> bool
+    ensures { λ r. ⌜ r ≡ isObjectWait kind ⌝ }
+{
+    flags::both(kind != NO_WAIT, kind != ON_TIME)
+}
+
 // An object only for a wait on one, a time only for a wait.
 fn wait_fits(kind: u8, object: u8, timed: u8) -> bool
     ensures { λ r. ⌜ r ≡ waitFits kind object timed ⌝ }
 {
-    let on_object = flags::both(kind != NO_WAIT, kind != ON_TIME);
-    let objects = flags::either(object == 0, on_object);
+    let objects = flags::either(object == 0, for_object(kind));
     let times = flags::both(timed <= 1, flags::either(timed == 0, kind != NO_WAIT));
     flags::both(kind <= ON_RECEIVE, flags::both(objects, times))
 }
@@ -59,6 +66,18 @@ pub fn waits<'a>(wait: &'a [u8; TASKS], object: &'a [u8; TASKS], timed: &'a [u8;
         fits = flags::both(wait_fits(wait[i], object[i], timed[i]), fits);
     }
     fits
+}
+
+// Does nobody wait for an object?
+pub fn none_for_objects(wait: &[u8; TASKS]) -> bool
+    ensures { λ r. ⌜ r ≡ allb taskPlaces (noObjectAt (now (wait .entry))) ⌝ }
+{
+    let mut none = true;
+    for i in 0..TASKS {
+        let apart = !for_object(wait[i]);
+        none = flags::both(apart, none);
+    }
+    none
 }
 
 // A timed wait has 1 to 2147483647 ticks left; another has no due time and is no sleep.

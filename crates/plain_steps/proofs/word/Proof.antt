@@ -25,21 +25,21 @@ returns-2 : tie.Need-returns-2
 unfolding wordStep
 returns-2 c = simp (c .answer2 .ensures, le-leb _ _ (c .before .if2 .taken), lt-leb _ _ (c .before .before .if1 .left))
 
-mul-word-in : tie.Need-mul-word-in
-mul-word-in c = search needs
+mul-word : tie.Need-mul-word
+mul-word c = search needs
 
-add-word-in : tie.Need-add-word-in
-add-word-in c = search needs
+add-word : tie.Need-add-word
+add-word c = search needs
 
-word-in-requires : tie.Need-word-in-requires
-word-in-requires c κs = search needs
+word-requires : tie.Need-word-requires
+word-requires c κs = search needs
 
 answer-requires-3 : tie.Need-answer-requires-3
 answer-requires-3 c κs = search needs
 
 returns-3 : tie.Need-returns-3
 unfolding wordStep
-returns-3 c = simp (c .answer3 .ensures, c .before .word-in .ensures, lt-leb _ _ (c .before .before .if2 .left), lt-leb _ _ (c .before .before .before .if1 .left))
+returns-3 c = simp (c .answer3 .ensures, c .before .word .ensures, lt-leb _ _ (c .before .before .if2 .left), lt-leb _ _ (c .before .before .before .if1 .left))
 
 pub word-spec : {M : Type 1} → statement M
 word-spec =
@@ -51,8 +51,8 @@ word-spec =
     cast-if2
     answer-requires-2
     returns-2
-    mul-word-in
-    add-word-in
-    word-in-requires
+    mul-word
+    add-word
+    word-requires
     answer-requires-3
     returns-3)

@@ -12,8 +12,8 @@ all-empty-requires-2 c κs = search needs
 both-requires : tie.Need-both-requires
 both-requires c κs = search needs
 
-none-owned-requires : tie.Need-none-owned-requires
-none-owned-requires c κs = search needs
+all-free-requires : tie.Need-all-free-requires
+all-free-requires c κs = search needs
 
 both-requires-2 : tie.Need-both-requires-2
 both-requires-2 c κs = search needs
@@ -31,7 +31,7 @@ both-requires-4 : tie.Need-both-requires-4
 both-requires-4 c κs = search needs
 
 returns : tie.Need-returns
-returns c = rw (c .both4 .ensures, c .before .both3 .ensures, c .before .before .all-empty4 .ensures, c .before .before .before .before .all-empty3 .ensures, c .before .before .before .before .before .before .both2 .ensures, c .before .before .before .before .before .before .before .none-owned .ensures, c .before .before .before .before .before .before .before .before .before .both .ensures, c .before .before .before .before .before .before .before .before .before .before .all-empty2 .ensures, c .before .before .before .before .before .before .before .before .before .before .before .before .all-empty .ensures)
+returns c = rw (c .both4 .ensures, c .before .both3 .ensures, c .before .before .all-empty4 .ensures, c .before .before .before .before .all-empty3 .ensures, c .before .before .before .before .before .before .both2 .ensures, c .before .before .before .before .before .before .before .all-free .ensures, c .before .before .before .before .before .before .before .before .before .both .ensures, c .before .before .before .before .before .before .before .before .before .before .all-empty2 .ensures, c .before .before .before .before .before .before .before .before .before .before .before .before .all-empty .ensures)
 
 pub none-made-spec : {M : Type 1} → statement M
 none-made-spec =
@@ -40,7 +40,7 @@ none-made-spec =
     all-empty-requires
     all-empty-requires-2
     both-requires
-    none-owned-requires
+    all-free-requires
     both-requires-2
     all-empty-requires-3
     all-empty-requires-4
