@@ -221,6 +221,7 @@ module _ (k : State) (ws b : List ℕ) (T : Typed k) (tidy : tidyb k ≡ true) (
       let spots = sym (places-same k ws b T tidy listed (and-r _ _ lists)) ∙ and-l _ _ c₄ in
       let wait = and-l _ _ c₅ in
       let blocked = sym (blocked-same k ws b T tidy words-typed) ∙ true-and _ _ (and-l _ _ wait) (and-l _ _ (and-r _ _ wait)) in
+      let owners = true-and _ _ (and-r _ _ mutex) (owners-checked k ws b T tidy queue) in
       let tables =
       true-and _ _ columns-true
       (true-and _ _ sizes-true
@@ -228,8 +229,8 @@ module _ (k : State) (ws b : List ℕ) (T : Typed k) (tidy : tidyb k ≡ true) (
       (true-and _ _ (waiting-view k ws b T tidy ∙ true-and _ _ (and-r _ _ lists) (and-l _ _ spots))
       (true-and _ _ (and-l _ _ blocked)
       (true-and _ _ (sym (times-same k ws b T tidy) ∙ and-l _ _ times)
-      (true-and _ _ (true-and _ _ (and-r _ _ mutex) (owners-checked k ws b T tidy queue))
-      (true-and _ _ (ringless-ring k ws b T tidy (and-r _ _ (and-r _ _ wait)))
+      (true-and _ _ owners
+      (true-and _ _ (ringless-ring k ws b T tidy owners (and-r _ _ (and-r _ _ wait)))
       (true-and _ _ (sym (counts-same k ws b T tidy) ∙ and-r _ _ object)
       (true-and _ _ (sym (outcomes-same k ws b T tidy) ∙ and-r _ _ times)
       (true-and _ _ (queues-checked k ws b T tidy queue) (true-and _ _ (words-checked k ws b T tidy words-typed) (and-r _ _ blocked)))))))))))) in

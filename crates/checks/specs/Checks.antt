@@ -184,15 +184,15 @@ placesIn kinds ready waiting n running =
     let waits = counted (replicate taskPlaces 0) (items waiting) in
     allb taskPlaces (placeAt kinds waits (counted waits (items ready)) n running)
 
--- no ring: the chain of every owner ends
-unfoldable pub ringless : List ℕ → List ℕ → Mutexes → Queues → ℕ → Bool
-ringless waits objects m x n =
+-- no ring: the chain of every owner ends, within as many links as there are places
+unfoldable pub ringless : List ℕ → List ℕ → Mutexes → Queues → Bool
+ringless waits objects m x =
     let next = filled taskPlaces (λ i. ledBy (m .owner) (x .owner) (getD waits i 0) (getD objects i 0)) in
-    allb maxMutexes (λ j. endsb n (nextIn next) (taskAt (getD (m .owner) j 0))) and allb maxQueues (λ j. endsb n (nextIn next) (taskAt (getD (x .owner) j 0)))
+    allb maxMutexes (λ j. endsb taskPlaces (nextIn next) (taskAt (getD (m .owner) j 0))) and allb maxQueues (λ j. endsb taskPlaces (nextIn next) (taskAt (getD (x .owner) j 0)))
 
 -- waits are for what isn't available, and close no ring
-unfoldable pub waitsIn : List ℕ → List ℕ → Mutexes → Semaphores → Queues → List ℕ → ℕ → Bool
-waitsIn waits objects m c x words n = blockedIn waits objects m c and queueWaitsIn waits objects x words and ringless waits objects m x n
+unfoldable pub waitsIn : List ℕ → List ℕ → Mutexes → Semaphores → Queues → List ℕ → Bool
+waitsIn waits objects m c x words = blockedIn waits objects m c and queueWaitsIn waits objects x words and ringless waits objects m x
 
 -- stored levels: each is the least of the own priority and of the stored levels that are lent to the task
 abbrev pub sameAt : List ℕ → List ℕ → ℕ → Bool
@@ -231,7 +231,7 @@ unfoldable pub checks : State → List ℕ → ℕ → Bool
 checks k words space =
     let t = k .tasks in
     tablesIn k words space and placesIn (t .wait) (k .ready) (k .waiting) (t .n) (k .running)
-    and waitsIn (t .wait) (t .object) (k .mutexes) (k .semaphores) (k .queues) words (t .n)
+    and waitsIn (t .wait) (t .object) (k .mutexes) (k .semaphores) (k .queues) words
     and levelsIn (t .priority) (t .level) (t .wait) (t .object) (k .mutexes) (k .queues)
     and ascb (keyOf (t .level)) (items (k .ready)) and cond (eqb (k .started) 0)
     (atRest (k .clock) (k .hold) (k .running) (k .waiting .n) and setUpIn (k .mutexes .owner) (t .outcome) (k .ready) (t .level) (k .queues .used) words)

@@ -13,15 +13,16 @@ use borrow.Author.Tests.{eqb-true, eq-eqb}
 use Rattle.lists.specs.Test.{allb, holds}
 use Rattle.lists.specs.Table.{filled}
 use Rattle.lists.specs.TestLaws.{none-some, and-l, and-r, true-and, all-true, true-all, same-test}
-use Rattle.chains.specs.Chain.{end, endsb}
+use Rattle.chains.specs.Chain.{endsb}
 use Rattle.chains.specs.Least.{least, Recursive}
-use Rattle.chains.specs.ChainLaws.{chain-short, true-ends, ends-none}
+use Rattle.chains.specs.ChainLaws.{chain-short, ends-true, true-ends, ends-none}
 use Rattle.chains.specs.LeastLaws.{least-start}
 use Rattle.rules.specs.Sizes.{taskPlaces, maxMutexes, maxQueues}
 use Rattle.rules.specs.Tables.{Tables, taskCount, priorityOf, waitOf, ownerOf, queueOwnerOf}
 use Rattle.rules.specs.Levels.{ownerAwaited, ofWait, next, lends, levelIn}
-use Rattle.rules.specs.Sound.{noRingb}
+use Rattle.rules.specs.Sound.{ownersb, noRingb}
 use Rattle.rules.specs.Invariant.{Facts}
+use Rattle.rules.specs.SoundLaws.{owner-there, queue-owner-there}
 use Rattle.rules.specs.LevelLaws.{of-wait, owner-awaited, next-ended, level-recursive, level-only}
 use Rattle.task_lists.specs.TaskList.{keyOf}
 use Rattle.walks.specs.Walk.{taskAt, nextIn, lentBy}
@@ -37,42 +38,48 @@ use Rattle.checks.specs.Checks.{ringless, sameAt, levelsIn}
 use Rattle.checks.specs.TableCheckLaws.{owner-read, queue-owner-any}
 use Rattle.record.specs.declared.State.{State}  -- keep
 
--- where the chain of each owner ends, that of each task does
-owners-ring : (t : Tables) → ((m o : ℕ) → ownerOf t m ≡ some o → endsb (taskCount t) (next t) (some o) ≡ true)
-    → ((q o : ℕ) → queueOwnerOf t q ≡ some o → endsb (taskCount t) (next t) (some o) ≡ true) → noRingb t ≡ true
+-- where owners exist and the chain of each ends, that of each task does, within as many links as there are tasks
+owners-ring : (t : Tables) → ownersb t ≡ true → ((m o : ℕ) → ownerOf t m ≡ some o → endsb taskPlaces (next t) (some o) ≡ true)
+    → ((q o : ℕ) → queueOwnerOf t q ≡ some o → endsb taskPlaces (next t) (some o) ≡ true) → noRingb t ≡ true
 unfolding noRingb next ofWait
-owners-ring t h g = true-all (taskCount t) _ (λ i l. go i (next t i) refl)
+owners-ring t w h g = true-all (taskCount t) _ (λ i l. go i (next t i) refl)
   where
+    to : (i o : ℕ) → next t i ≡ some o → o < taskCount t
+    to i o e = let a = of-wait (ownerAwaited t) (waitOf t i) o e in elim (owner-awaited t (a .0) o (a .1)) [ inl r ↦ owner-there t w (r .0) o (r .1) | inr r ↦ queue-owner-there t w (r .0) o (r .1) ]
+
+    ended : (i o : ℕ) → next t i ≡ some o → endsb taskPlaces (next t) (some o) ≡ true
+    ended i o e = let a = of-wait (ownerAwaited t) (waitOf t i) o e in elim (owner-awaited t (a .0) o (a .1)) [ inl r ↦ h (r .0) o (r .1) | inr r ↦ g (r .0) o (r .1) ]
+
     go : (i : ℕ) (o : Option ℕ) → next t i ≡ o → endsb (taskCount t) (next t) o ≡ true
     go i none e = ends-none (next t) (taskCount t)
-    go i (some o) e = let a = of-wait (ownerAwaited t) (waitOf t i) o e in elim (owner-awaited t (a .0) o (a .1)) [ inl r ↦ h (r .0) o (r .1) | inr r ↦ g (r .0) o (r .1) ]
+    go i (some o) e = let c = ends-true taskPlaces (some o) (ended i o e) in true-ends (c .1) (taskCount t) (chain-short (taskCount t) to (c .1) (λ j q. to i j (e ∙ q)))
 
 -- the chain of an owner ends, and is no longer than there are tasks
-ring-owners : (t : Tables) → Facts t → (q : Option ℕ) → ((o : ℕ) → q ≡ some o → o < taskCount t) → endsb (taskCount t) (next t) q ≡ true
-ring-owners t F none b = ends-none (next t) (taskCount t)
-ring-owners t F (some o) b = let c = F .ends o .1 in true-ends c (taskCount t) (chain-short (taskCount t) (next-ended t F .to) c b)
+ring-owners : (t : Tables) → Facts t → (q : Option ℕ) → ((o : ℕ) → q ≡ some o → o < taskCount t) → endsb taskPlaces (next t) q ≡ true
+ring-owners t F none b = ends-none (next t) taskPlaces
+ring-owners t F (some o) b = let c = F .ends o .1 in true-ends c taskPlaces (omega (arith, chain-short (taskCount t) (next-ended t F .to) c b, F .few-tasks))
 
 module _ (k : State) (ws b : List ℕ) (T : Typed k) (tidy : tidyb k ≡ true) where
   -- the code's test of one owner is that of its chain
   ends-at : (x : ℕ) (o : Option ℕ) → taskAt x ≡ o
-      → endsb (k .tasks .n) (nextIn (filled taskPlaces (nextAt (k .tasks) (k .mutexes) (k .queues)))) (taskAt x) ≡ endsb (taskCount (viewTables (whole k ws b))) (next (viewTables (whole k ws b))) o
+      → endsb taskPlaces (nextIn (filled taskPlaces (nextAt (k .tasks) (k .mutexes) (k .queues)))) (taskAt x) ≡ endsb taskPlaces (next (viewTables (whole k ws b))) o
   ends-at x o e =
-      ends-ext (nextIn (filled taskPlaces (nextAt (k .tasks) (k .mutexes) (k .queues)))) (next (viewTables (whole k ws b))) (next-same k ws b T tidy) (k .tasks .n) (taskAt x)
-      ∙ rw (e, view-tasks k ws b T tidy) refl
+      ends-ext (nextIn (filled taskPlaces (nextAt (k .tasks) (k .mutexes) (k .queues)))) (next (viewTables (whole k ws b))) (next-same k ws b T tidy) taskPlaces (taskAt x)
+      ∙ ap (endsb taskPlaces (next (viewTables (whole k ws b)))) e
 
   ends-same : (j : ℕ) → j < maxMutexes
-      → endsb (k .tasks .n) (nextIn (filled taskPlaces (nextAt (k .tasks) (k .mutexes) (k .queues)))) (taskAt (getD (k .mutexes .owner) j 0))
-      ≡ endsb (taskCount (viewTables (whole k ws b))) (next (viewTables (whole k ws b))) (ownerOf (viewTables (whole k ws b)) j)
+      → endsb taskPlaces (nextIn (filled taskPlaces (nextAt (k .tasks) (k .mutexes) (k .queues)))) (taskAt (getD (k .mutexes .owner) j 0))
+      ≡ endsb taskPlaces (next (viewTables (whole k ws b))) (ownerOf (viewTables (whole k ws b)) j)
   ends-same j h = ends-at (getD (k .mutexes .owner) j 0) (ownerOf (viewTables (whole k ws b)) j) (ap taskAt (owner-read k ws b T tidy j h) ∙ sym (view-owner k ws b T tidy j))
 
   queue-ends-same : (j : ℕ) → j < maxQueues
-      → endsb (k .tasks .n) (nextIn (filled taskPlaces (nextAt (k .tasks) (k .mutexes) (k .queues)))) (taskAt (getD (k .queues .owner) j 0))
-      ≡ endsb (taskCount (viewTables (whole k ws b))) (next (viewTables (whole k ws b))) (queueOwnerOf (viewTables (whole k ws b)) j)
+      → endsb taskPlaces (nextIn (filled taskPlaces (nextAt (k .tasks) (k .mutexes) (k .queues)))) (taskAt (getD (k .queues .owner) j 0))
+      ≡ endsb taskPlaces (next (viewTables (whole k ws b))) (queueOwnerOf (viewTables (whole k ws b)) j)
   queue-ends-same j h = ends-at (getD (k .queues .owner) j 0) (queueOwnerOf (viewTables (whole k ws b)) j) (ap taskAt (queue-owner-any k ws b T tidy j h) ∙ sym (view-queue-owner k ws b T tidy j))
 
-  pub ringless-ring : ringless (k .tasks .wait) (k .tasks .object) (k .mutexes) (k .queues) (k .tasks .n) ≡ true → noRingb (viewTables (whole k ws b)) ≡ true
+  pub ringless-ring : ownersb (viewTables (whole k ws b)) ≡ true → ringless (k .tasks .wait) (k .tasks .object) (k .mutexes) (k .queues) ≡ true → noRingb (viewTables (whole k ws b)) ≡ true
   unfolding ringless
-  ringless-ring e = owners-ring (viewTables (whole k ws b))
+  ringless-ring w e = owners-ring (viewTables (whole k ws b)) w
       (λ m o q. elim (decLt m maxMutexes) [
         | yes h ↦ rw (← q) (sym (ends-same m h) ∙ all-true maxMutexes _ (and-l _ _ e) m h)
         | no h ↦ none-some (view-owner k ws b T tidy m ∙ ap taskAt (unused-owner k ws b T tidy m (omega (arith, mutexes-fit k tidy)))) q
@@ -82,7 +89,7 @@ module _ (k : State) (ws b : List ℕ) (T : Typed k) (tidy : tidyb k ≡ true) w
         | no h ↦ none-some (view-queue-owner k ws b T tidy m ∙ ap taskAt (unused-queue-owner k ws b T tidy m (omega (arith, queues-fit k tidy)))) q
       ])
 
-  pub facts-ringless : Facts (viewTables (whole k ws b)) → ringless (k .tasks .wait) (k .tasks .object) (k .mutexes) (k .queues) (k .tasks .n) ≡ true
+  pub facts-ringless : Facts (viewTables (whole k ws b)) → ringless (k .tasks .wait) (k .tasks .object) (k .mutexes) (k .queues) ≡ true
   unfolding ringless
   facts-ringless F = true-and _ _
       (true-all maxMutexes _ (λ j h. ends-same j h ∙ ring-owners (viewTables (whole k ws b)) F (ownerOf (viewTables (whole k ws b)) j) (F .owners j)))

@@ -137,22 +137,22 @@ no-object kind e = elim (which (eqb kind 0)) [
 ]
 
 -- where no task leads to another, each chain has at most one link
-one-link : (next : List ℕ) (n o : ℕ) → ltb 0 n ≡ true → ((i : ℕ) → i < taskPlaces → getD next i 0 ≡ noId) → endsb n (nextIn next) (taskAt o) ≡ true
+one-link : (next : List ℕ) (f o : ℕ) → 0 < f → ((i : ℕ) → i < taskPlaces → getD next i 0 ≡ noId) → endsb f (nextIn next) (taskAt o) ≡ true
 unfolding endsb
-one-link next zero o p g = absurd (clash p refl)
-one-link next (suc n) o p g = elim (decLt o taskPlaces) [
-  | yes h ↦ (let e : nextIn next o ≡ none = rw (lt-ltb o taskPlaces h, g o h) refl in rw (lt-ltb o taskPlaces h) (ap (endsb n (nextIn next)) e ∙ ends-none (nextIn next) n))
+one-link next zero o p g = absurd (omega arith)
+one-link next (suc f) o p g = elim (decLt o taskPlaces) [
+  | yes h ↦ (let e : nextIn next o ≡ none = rw (lt-ltb o taskPlaces h, g o h) refl in rw (lt-ltb o taskPlaces h) (ap (endsb f (nextIn next)) e ∙ ends-none (nextIn next) f))
   | no h ↦ rw (le-ltb o taskPlaces (omega arith)) refl
 ]
 
 -- where nobody waits for an object, waits are as they should be, and there is no ring
-pub waits-none : (waits objects : List ℕ) (m : Mutexes) (c : Semaphores) (x : Queues) (words : List ℕ) (n : ℕ) → ltb 0 n ≡ true
-    → allb taskPlaces (noObjectAt waits) ≡ true → waitsIn waits objects m c x words n ≡ true
+pub waits-none : (waits objects : List ℕ) (m : Mutexes) (c : Semaphores) (x : Queues) (words : List ℕ)
+    → allb taskPlaces (noObjectAt waits) ≡ true → waitsIn waits objects m c x words ≡ true
 unfolding waitsIn blockedIn blockedBy queueWaitsIn queueWaitFits ringless _or_
-waits-none waits objects m c x words n p e =
+waits-none waits objects m c x words e =
     true-and _ _ (true-all taskPlaces _ (λ i h. elim (kind i h) [ inl u ↦ rw u refl | inr u ↦ rw u refl ]))
     (true-and _ _ (true-all taskPlaces _ (λ i h. elim (kind i h) [ inl u ↦ rw u refl | inr u ↦ rw u refl ]))
-    (true-and _ _ (true-all maxMutexes _ (λ j h. one-link next n (getD (m .owner) j 0) p alone)) (true-all maxQueues _ (λ j h. one-link next n (getD (x .owner) j 0) p alone))))
+    (true-and _ _ (true-all maxMutexes _ (λ j h. one-link next taskPlaces (getD (m .owner) j 0) (omega arith) alone)) (true-all maxQueues _ (λ j h. one-link next taskPlaces (getD (x .owner) j 0) (omega arith) alone))))
   where
     kind : (i : ℕ) → i < taskPlaces → (getD waits i 0 ≡ 0) ⊎ (getD waits i 0 ≡ onTime)
     kind i h = no-object (getD waits i 0) (all-true taskPlaces (noObjectAt waits) e i h)

@@ -174,9 +174,24 @@ true-outcome (some w) n u = eq-eqb n pending u
 
 -- the test of the tables
 module _ (t : Tables) where
+  -- owners exist
+  pub owner-there : ownersb t ≡ true → (m o : ℕ) → ownerOf t m ≡ some o → o < taskCount t
+  unfolding ownersb
+  owner-there owners m o q = elim (decLt m (mutexCount t)) [
+    | yes h ↦ exists-true (taskCount t) (ownerOf t m) (all-true (mutexCount t) _ (and-l _ _ owners) m h) o q
+    | no h ↦ none-some (List·getD-eq-default (t .mutexes .owners) none (omega arith)) q
+  ]
+
+  pub queue-owner-there : ownersb t ≡ true → (j o : ℕ) → queueOwnerOf t j ≡ some o → o < taskCount t
+  unfolding ownersb
+  queue-owner-there owners j o q = elim (decLt j (queueCount t)) [
+    | yes h ↦ exists-true (taskCount t) (queueOwnerOf t j) (all-true (queueCount t) _ (and-r _ _ owners) j h) o q
+    | no h ↦ none-some (List·getD-eq-default (t .queues .owners) none (omega arith)) q
+  ]
+
   facts-of : columnsb t ≡ true → sizesb t ≡ true → rangesb t ≡ true → waitingb t ≡ true → waitersb t ≡ true → timesb t ≡ true → ownersb t ≡ true
       → noRingb t ≡ true → countsb t ≡ true → outcomesb t ≡ true → queuesb t ≡ true → wordsb t ≡ true → queueWaitsb t ≡ true → Facts t
-  unfolding columnsb sizesb rangesb waitingb waitCount waitersb timesb ownersb noRingb countsb outcomesb queuesb wordsb queueWaitsb
+  unfolding columnsb sizesb rangesb waitingb waitCount waitersb timesb noRingb countsb outcomesb queuesb wordsb queueWaitsb
   facts-of columns sizes ranges waiting waiters times owners rings counts outcomes queues words queued = record {
     wait-column = column;
     outcome-column = eqb-true _ _ (and-l _ _ (and-r _ _ columns));
@@ -204,14 +219,8 @@ module _ (t : Tables) where
       | yes h ↦ timed-true (waitOf t i) (all-true (taskCount t) _ times i h)
       | no h ↦ rw (out i (omega arith)) tt
     ];
-    owners = λ m o q. elim (decLt m (mutexCount t)) [
-      | yes h ↦ exists-true (taskCount t) (ownerOf t m) (all-true (mutexCount t) _ (and-l _ _ owners) m h) o q
-      | no h ↦ none-some (List·getD-eq-default (t .mutexes .owners) none (omega arith)) q
-    ];
-    queue-owners = λ j o q. elim (decLt j (queueCount t)) [
-      | yes h ↦ exists-true (taskCount t) (queueOwnerOf t j) (all-true (queueCount t) _ (and-r _ _ owners) j h) o q
-      | no h ↦ none-some (List·getD-eq-default (t .queues .owners) none (omega arith)) q
-    ];
+    owners = owner-there owners;
+    queue-owners = queue-owner-there owners;
     ends = λ i. (let r = tail i in (i ∷ r .0, link (r .1)));
     counts = λ k h. (let e = all-true (semCount t) _ counts k h in (leb-true _ _ (and-l _ _ e), ltb-true _ _ (and-r _ _ e)));
     outcomes = λ i h. outcome-true (waitOf t i) (outcomeOf t i) (all-true (taskCount t) _ outcomes i h);

@@ -138,8 +138,7 @@ fn places_in(wait: &[u8; TASKS], ready: TaskList, waiting: TaskList, n: u8, runn
     sound_places::places(wait, &waits, &all, n, running)
 }
 
-// Waits are for what isn't available, and there is "no ring of waits". Where nobody waits for an object, which is seen at once, tables aren't looked at:
-// a chain that leads to nobody has one link, so it ends where there is a task.
+// Waits are for what isn't available, and there is "no ring of waits". Where nobody waits for an object, which is seen at once, tables aren't looked at.
 fn waits_in<'a>(
     wait: &'a [u8; TASKS],
     object: &'a [u8; TASKS],
@@ -147,11 +146,10 @@ fn waits_in<'a>(
     c: Semaphores,
     x: Queues,
     words: &'a [u32],
-    n: u8,
 ) -> bool
-    ensures { λ r. ⌜ r ≡ waitsIn (now (wait .entry)) (now (object .entry)) m c x (now (words .entry)) n ⌝ }
+    ensures { λ r. ⌜ r ≡ waitsIn (now (wait .entry)) (now (object .entry)) m c x (now (words .entry)) ⌝ }
 {
-    if flags::both(0 < n, sound_tables::none_for_objects(wait)) {
+    if sound_tables::none_for_objects(wait) {
         return true;
     }
     let owner = m.owner;
@@ -164,7 +162,7 @@ fn waits_in<'a>(
     if !waiters::fit(wait, object, x, words) {
         return false;
     }
-    sound_places::owners_end(&next, &owner, &queues, n)
+    sound_places::owners_end(&next, &owner, &queues)
 }
 
 // "stored levels as defined": own priorities, where nobody waits for a mutex or to send, since nothing is lent then.
@@ -231,7 +229,7 @@ pub fn is_sound(s: State, words: &[u32], space: usize) -> bool
     if !places_in(&wait, ready, waiting, t.n, s.running) {
         return false;
     }
-    if !waits_in(&wait, &object, mutexes, semaphores, queues, words, t.n) {
+    if !waits_in(&wait, &object, mutexes, semaphores, queues, words) {
         return false;
     }
     let own = t.priority;

@@ -61,11 +61,11 @@ pub fn places<'a>(
 }
 
 // The chain of each of a table's owners ends.
-fn each_ends<'a>(next: &'a [u8; TASKS], owner: &'a [u8; MUTEXES], n: u8) -> bool
-    ensures { λ r. ⌜ r ≡ allb maxMutexes (λ j. endsb n (nextIn (now (next .entry))) (taskAt (getD (now (owner .entry)) j 0))) ⌝ }
+fn each_ends<'a>(next: &'a [u8; TASKS], owner: &'a [u8; MUTEXES]) -> bool
+    ensures { λ r. ⌜ r ≡ allb maxMutexes (λ j. endsb taskPlaces (nextIn (now (next .entry))) (taskAt (getD (now (owner .entry)) j 0))) ⌝ }
 {
     for j in 0..MUTEXES {
-        if !walks::ends(next, owner[j], n) {
+        if !walks::ends(next, owner[j], TASK_PLACES) {
             return false;
         }
     }
@@ -73,13 +73,13 @@ fn each_ends<'a>(next: &'a [u8; TASKS], owner: &'a [u8; MUTEXES], n: u8) -> bool
 }
 
 // The same. Where nothing is owned, which is seen at once, there is no chain to walk along.
-fn table_ends<'a>(next: &'a [u8; TASKS], owner: &'a [u8; MUTEXES], n: u8) -> bool
-    ensures { λ r. ⌜ r ≡ allb maxMutexes (λ j. endsb n (nextIn (now (next .entry))) (taskAt (getD (now (owner .entry)) j 0))) ⌝ }
+fn table_ends<'a>(next: &'a [u8; TASKS], owner: &'a [u8; MUTEXES]) -> bool
+    ensures { λ r. ⌜ r ≡ allb maxMutexes (λ j. endsb taskPlaces (nextIn (now (next .entry))) (taskAt (getD (now (owner .entry)) j 0))) ⌝ }
 {
     if sound_objects::all_free(owner) {
         return true;
     }
-    each_ends(next, owner, n)
+    each_ends(next, owner)
 }
 
 // "no ring of waits": the chain of every owner ends, of mutexes and of queues, whose tables are equally long. Who waits for nothing that is owned
@@ -88,14 +88,13 @@ pub fn owners_end<'a>(
     next: &'a [u8; TASKS],
     mutexes: &'a [u8; MUTEXES],
     queues: &'a [u8; QUEUES],
-    n: u8,
 ) -> bool
-    ensures { λ r. ⌜ r ≡ allb maxMutexes (λ j. endsb n (nextIn (now (next .entry))) (taskAt (getD (now (mutexes .entry)) j 0))) and allb maxQueues (λ j. endsb n (nextIn (now (next .entry))) (taskAt (getD (now (queues .entry)) j 0))) ⌝ }
+    ensures { λ r. ⌜ r ≡ allb maxMutexes (λ j. endsb taskPlaces (nextIn (now (next .entry))) (taskAt (getD (now (mutexes .entry)) j 0))) and allb maxQueues (λ j. endsb taskPlaces (nextIn (now (next .entry))) (taskAt (getD (now (queues .entry)) j 0))) ⌝ }
 {
-    if !table_ends(next, mutexes, n) {
+    if !table_ends(next, mutexes) {
         return false;
     }
-    table_ends(next, queues, n)
+    table_ends(next, queues)
 }
 
 // "stored levels as defined": do two tables hold the same?

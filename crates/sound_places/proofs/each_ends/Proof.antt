@@ -12,13 +12,13 @@ use Rattle.sound_places.proofs.each_ends.Statement.{statement}
 use Rattle.sound_places.proofs.each_ends.Tie as tie
 
 abbrev Inv-loop : tie.InvT-loop
-Inv-loop next owner n j₀ j = (j ≤ maxMutexes) × (true ≡ allb j (endsFrom next owner n))
+Inv-loop next owner j₀ j = (j ≤ maxMutexes) × (true ≡ allb j (endsFrom next owner))
 
 abbrev μ-loop : tie.MeasureT-loop
-μ-loop next owner n j₀ j = maxMutexes - j
+μ-loop next owner j₀ j = maxMutexes - j
 
 loop-holds : tie.Need-loop-holds Inv-loop μ-loop
-loop-holds c = let a = c .args in (search needs, all-none (endsFrom (a .next .now) (a .owner .now) (a .n)))
+loop-holds c = let a = c .args in (search needs, all-none (endsFrom (a .next .now) (a .owner .now)))
 
 element-copy-out-ends : tie.Need-element-copy-out-ends Inv-loop μ-loop
 element-copy-out-ends c = search needs
@@ -30,7 +30,7 @@ returns : tie.Need-returns Inv-loop μ-loop
 returns c =
     let a = c .before .before .before .before .before .args in
     let l = c .before .before .before .before .loop in
-    all-stop (endsFrom (a .next .now) (a .owner .now) (a .n)) (l .j) maxMutexes (omega arith) (c .before .ends .ensures) (c .if1 .taken)
+    all-stop (endsFrom (a .next .now) (a .owner .now)) (l .j) maxMutexes (omega arith) (c .before .ends .ensures) (c .if1 .taken)
 
 add-j : tie.Need-add-j Inv-loop μ-loop
 add-j c = search needs
@@ -42,13 +42,13 @@ loop-again : tie.Need-loop-again Inv-loop μ-loop
 loop-again c =
     let a = c .before .before .before .before .before .args in
     let l = c .before .before .before .before .loop in
-    (search needs, all-turn (endsFrom (a .next .now) (a .owner .now) (a .n)) (l .j) (l .inv .1) (c .before .ends .ensures) (c .if1 .left))
+    (search needs, all-turn (endsFrom (a .next .now) (a .owner .now)) (l .j) (l .inv .1) (c .before .ends .ensures) (c .if1 .left))
 
 returns-2 : tie.Need-returns-2 Inv-loop μ-loop
 returns-2 c =
     let a = c .before .before .args in
     let l = c .before .loop in
-    all-done (endsFrom (a .next .now) (a .owner .now) (a .n)) (l .j) maxMutexes (omega arith) (l .inv .1)
+    all-done (endsFrom (a .next .now) (a .owner .now)) (l .j) maxMutexes (omega arith) (l .inv .1)
 
 pub each-ends-spec : {M : Type 1} → statement M
 each-ends-spec =

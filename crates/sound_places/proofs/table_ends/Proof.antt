@@ -11,7 +11,7 @@ all-free-requires c κs = search needs
 returns : tie.Need-returns
 returns c =
     let a = c .before .before .args in
-    free-ends (a .next .now) (a .owner .now) (a .n) (sym (c .before .all-free .ensures) ∙ c .if1 .taken)
+    free-ends (a .next .now) (a .owner .now) (sym (c .before .all-free .ensures) ∙ c .if1 .taken)
 
 each-ends-requires : tie.Need-each-ends-requires
 each-ends-requires c κs = search needs
