@@ -186,7 +186,7 @@ fn levels_in<'a>(
     sound_places::same(level, &lent)
 }
 
-// The tables and lists, each by itself. The sizes come first: they bound the walks along chains of waits.
+// The tables and lists, each by itself. The sizes come first: what is said of the others counts on them.
 fn tables_in(s: State, words: &[u32], space: usize) -> bool
     ensures { λ r. ⌜ r ≡ tablesIn s (now (words .entry)) space ⌝ }
 {
