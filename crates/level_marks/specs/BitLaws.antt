@@ -1,5 +1,5 @@
 -- Laws of bits, over the word: each bit of the word of a test, words joined bit by bit, and trailing zeros as the first bit that is set.
-use mathlib.Core.Path.{_≡_, refl, ap, ap₂, sym, _∙_, fun-ext}
+use mathlib.Core.Path.{_≡_, refl, ap, sym, _∙_, fun-ext}
 use mathlib.Core.Bool.{Bool, true, false, cond}
 use mathlib.Core.Logic.{inl, inr}
 use Prim.Native.Nat.{ℕ, zero, suc, _+_, _*_, _/_, _%_, _^_, _≤_, _<_, max}
@@ -8,10 +8,10 @@ use native.Mathlib.Nat.{pow-suc}
 use lib.Dec.{eqb, eqb·zero-suc, eqb·suc-zero, eqb·suc-suc}
 use lib.Pow.{shr-shr}
 use lib.Bits.{bitOr, or-step}
-use lib.Count.{trailingZeros, under}
-use borrow.Author.Tests.{eq-eqb, ne-eqb, eqb-true, eqb-false}
+use lib.Count.{trailingZeros}
+use borrow.Author.Tests.{ne-eqb, eqb-true, eqb-false}
 use Rattle.lists.specs.Test.{_or_}
-use Rattle.lists.specs.TestLaws.{which, by-test}
+use Rattle.lists.specs.TestLaws.{which}
 use Rattle.level_marks.specs.Bits.{wordWhere, isSet, firstWhere}
 
 -- the number of a bit
@@ -47,7 +47,17 @@ set-where zero p l h = absurd (omega arith)
 set-where (suc k) p zero h = set-low (wordWhere (suc k) p) ∙ ap (λ z. eqb z 1) (low-bit _ (p 0)) ∙ is-bit (p 0)
 set-where (suc k) p (suc l) h = set-high (wordWhere (suc k) p) l ∙ ap (λ z. isSet z l) (half-bit _ (p 0)) ∙ set-where k (λ j. p (suc j)) l (omega arith)
 
--- the word of a test that none passes is 0, and no other
+-- it has k bits
+bit-in : (b : Bool) → bit b < 2
+bit-in true = omega arith
+bit-in false = omega arith
+
+pub where-in : (k : ℕ) (p : ℕ → Bool) → wordWhere k p < 2 ^ k
+unfolding wordWhere
+where-in zero p = omega arith
+where-in (suc k) p = omega (arith, pow-suc 2 k, where-in k (λ l. p (suc l)), bit-in (p 0))
+
+-- the word of a test that none passes is 0
 pub none-where : (k : ℕ) (p : ℕ → Bool) → ((l : ℕ) → l < k → p l ≡ false) → wordWhere k p ≡ 0
 unfolding wordWhere
 none-where zero p h = refl
@@ -88,8 +98,10 @@ pub or-where : (k : ℕ) (p q : ℕ → Bool) → bitOr (wordWhere k p) (wordWhe
 unfolding wordWhere
 or-where zero p q = refl
 or-where (suc k) p q =
+    let a : ℕ = wordWhere k (λ l. p (suc l)) in
+    let b : ℕ = wordWhere k (λ l. q (suc l)) in
     or-step (wordWhere (suc k) p) (wordWhere (suc k) q)
-    ∙ rw (half-bit (wordWhere k (λ l. p (suc l))) (p 0), half-bit (wordWhere k (λ l. q (suc l))) (q 0), low-bit (wordWhere k (λ l. p (suc l))) (p 0), low-bit (wordWhere k (λ l. q (suc l))) (q 0), or-where k (λ l. p (suc l)) (λ l. q (suc l)), or-bit (p 0) (q 0)) refl
+    ∙ rw (half-bit a (p 0), half-bit b (q 0), low-bit a (p 0), low-bit b (q 0), or-where k (λ l. p (suc l)) (λ l. q (suc l)), or-bit (p 0) (q 0)) refl
 
 -- the first that passes: by its test alone, found, and none
 pub first-same : (k : ℕ) (p q : ℕ → Bool) → ((l : ℕ) → l < k → p l ≡ q l) → firstWhere k p ≡ firstWhere k q

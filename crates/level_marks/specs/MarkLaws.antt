@@ -1,24 +1,29 @@
 -- Laws of level marks, over any ready order and any levels: the mark law, the first level found, and that none is found exactly when the word is 0.
 use mathlib.Core.Path.{_≡_, refl, ap, sym, _∙_, fun-ext}
 use mathlib.Core.List.{List, [], _∷_, _++_}
-use mathlib.Core.Bool.{Bool, true, false}
+use mathlib.Core.Bool.{true, false}
 use mathlib.Core.Logic.{inl, inr}
 use Prim.Native.Nat.{ℕ, _^_, _≤_, _<_}
 use native.Mathlib.Omega.{arith}
 use native.Mathlib.Decide.{ℕ-discrete}
-use lib.Dec.{eqb}
+use lib.Dec.{ltb, eqb}
+use lib.ListN.{getD}
 use lib.Bits.{bitOr}
-use borrow.Author.Tests.{eq-eqb, ne-eqb, eqb-true, eqb-false}
+use borrow.Author.Tests.{eq-eqb, eqb-true, lt-ltb, ltb-true}
 use Rattle.lists.specs.Test.{_or_}
 use Rattle.lists.specs.Count.{occ}
 use Rattle.lists.specs.Order.{Asc}
 use Rattle.lists.specs.TestLaws.{which, clash, or-true, or-l, or-r}
-use Rattle.lists.specs.CountLaws.{eqn-at, eqn-other, occ-head}
+use Rattle.lists.specs.CountLaws.{eqn-other, occ-head}
 use Rattle.lists.specs.OrderLaws.{asc-first}
-use Rattle.rules.specs.Sizes.{levels}
+use Rattle.rules.specs.Sizes.{taskPlaces, levels}
 use Rattle.level_marks.specs.Bits.{wordWhere, isSet, firstWhere}
-use Rattle.level_marks.specs.Marks.{readyAt, marksOf, markOf, firstMarked}
-use Rattle.level_marks.specs.BitLaws.{set-where, none-where, zero-set, zero-word, or-where, first-same, first-found, first-none, none-before}
+use Rattle.level_marks.specs.Marks.{readyAt, marksOf, markOf, firstMarked, levelAt}
+use Rattle.level_marks.specs.BitLaws.{set-where, where-in, none-where, zero-set, zero-word, or-where, first-same, first-found, first-none, none-before}
+
+-- "none is found exactly when the word is 0", for every word with a bit for each level
+pub none-found : (word : ℕ) → word < 2 ^ levels → (firstMarked word ≡ levels → word ≡ 0) × (word ≡ 0 → firstMarked word ≡ levels)
+none-found word b = ((λ e. zero-word levels word b (λ l h. none-before levels (isSet word) l (omega (arith, e)))), (λ e. rw e (first-none levels (isSet 0) (λ l h. zero-set l))))
 
 module _ (level : ℕ → ℕ) where
   -- who is ready at a level
@@ -59,6 +64,10 @@ module _ (level : ℕ → ℕ) where
         | inr e ↦ e
       ]
 
+  -- a word of marks is such a word
+  pub marks-in : (ready : List ℕ) → marksOf level ready < 2 ^ levels
+  marks-in ready = where-in levels (readyAt level ready)
+
   -- nobody is ready, and one more
   pub marks-nobody : marksOf level [] ≡ 0
   unfolding readyAt
@@ -76,6 +85,27 @@ module _ (level : ℕ → ℕ) where
   pub some-marked : (ready : List ℕ) (x : ℕ) → 1 ≤ occ x ready → level x < levels → marksOf level ready ≡ 0 → ⊥
   some-marked ready x m h e = clash (mark-law ready (level x) h .1 x m refl) (ap (λ w. isSet w (level x)) e ∙ zero-set (level x))
 
--- "none is found exactly when the word is 0", for every word with a bit for each level
-pub none-found : (word : ℕ) → word < 2 ^ levels → (firstMarked word ≡ levels → word ≡ 0) × (word ≡ 0 → firstMarked word ≡ levels)
-none-found word b = ((λ e. zero-word levels word b (λ l h. none-before levels (isSet word) l (omega (arith, e)))), (λ e. rw e (first-none levels (isSet 0) (λ l h. zero-set l))))
+-- the level of a task that has a place, and who has one of the levels
+pub level-placed : (table : List ℕ) (x : ℕ) → x < taskPlaces → levelAt table x ≡ getD table x 0
+unfolding levelAt
+level-placed table x h = rw (lt-ltb x taskPlaces h) refl
+
+has-place : (table : List ℕ) (x : ℕ) → levelAt table x < levels → x < taskPlaces
+unfolding levelAt
+has-place table x h = elim (which (ltb x taskPlaces)) [
+  | inl e ↦ ltb-true x taskPlaces e
+  | inr e ↦ absurd (let z : levels < levels = rw e at h in omega arith)
+]
+
+-- the mark law for a table of levels: bit l is set exactly when a task that has a place there, of level l, is ready
+pub mark-law-table : (table ready : List ℕ) (l : ℕ) → l < levels
+    → (isSet (marksOf (levelAt table) ready) l ≡ true → (x : ℕ) × (1 ≤ occ x ready) × (x < taskPlaces) × (getD table x 0 ≡ l))
+    × ((x : ℕ) → 1 ≤ occ x ready → x < taskPlaces → getD table x 0 ≡ l → isSet (marksOf (levelAt table) ready) l ≡ true)
+mark-law-table table ready l h =
+    let law = mark-law (levelAt table) ready l h in (
+      (λ e.
+          let r = law .0 e in
+          let low : r .0 < taskPlaces = has-place table (r .0) (omega (arith, r .2)) in
+          (r .0, r .1, low, sym (level-placed table (r .0) low) ∙ r .2)),
+      (λ x m low e. law .1 x m (level-placed table x low ∙ e)),
+    )

@@ -4,14 +4,14 @@ use mathlib.Core.List.{List, [], _∷_}
 use mathlib.Core.Bool.{true, false}
 use mathlib.Core.Logic.{inl, inr}
 use mathlib.Core.Option.{Option, none, some}
-use Prim.Native.Nat.{ℕ, suc, _+_, _≤_, _<_}
+use Prim.Native.Nat.{ℕ, _+_, _≤_, _<_}
 use native.Mathlib.Omega.{arith}
 use lib.Dec.{ltb, eqb}
 use lib.ListN.{length}
-use borrow.Author.Tests.{ne-eqb}
+use borrow.Author.Tests.{eq-eqb, ne-eqb}
 use Rattle.lists.specs.Test.{_and_}
 use Rattle.lists.specs.Count.{occ, below, opt}
-use Rattle.lists.specs.Order.{insertHead}
+use Rattle.lists.specs.Order.{insertHead, Asc}
 use Rattle.lists.specs.Table.{pad}
 use Rattle.lists.specs.TestLaws.{which, true-and, false-and}
 use Rattle.lists.specs.CountLaws.{eqn-at, in-below, below-le, pigeonhole}
@@ -22,11 +22,13 @@ use Rattle.rules.specs.Settle.{meet, dispatch}
 use Rattle.rules.specs.Invariant.{Facts, Places}
 use Rattle.task_lists.specs.TaskList.{places, noId, taskListOf, keyOf, inserted, idOf}
 use Rattle.task_lists.specs.TaskListLaws.{items-taskListOf, head-taskListOf}
+use Rattle.level_marks.specs.Marks.{firstMarked}
 use Rattle.record.specs.Record.{packTasks, pack}
 use Rattle.record.specs.Reads.{firstId}
 use Rattle.record.specs.Setters.{putReady, putRunning}
-use Rattle.machine.specs.Machine.{restOf, displaced, turnOf, dispatched}
+use Rattle.machine.specs.Machine.{restOf, displaced, wordOf, turnOf, dispatched}
 use Rattle.record.specs.ReadLaws.{level-read}
+use Rattle.machine.specs.ReadyLevelLaws.{nobody-marked, some-level-marked, first-ready-level}
 use Rattle.record.specs.declared.State.{State}  -- keep
 use Rattle.task_lists.specs.declared.TaskList.{TaskList}  -- keep
 use Rattle.rules.specs.State.{State as Model, levelOf, placed}  -- keep
@@ -42,11 +44,11 @@ ran k x q = putRunning (putReady k q) x
 
 -- what the code does in each case
 module _ (k : State) (on : eqb (k .started) 0 ≡ false) where
-  case-empty : eqb (k .ready .n) 0 ≡ true → dispatched k ≡ k
+  case-empty : eqb (wordOf (k .ready) (k .tasks .level)) 0 ≡ true → dispatched k ≡ k
   unfolding dispatched turnOf
   case-empty e = rw (on, e) refl
 
-  module _ (some-ready : eqb (k .ready .n) 0 ≡ false) where
+  module _ (some-ready : eqb (wordOf (k .ready) (k .tasks .level)) 0 ≡ false) where
     case-idle : eqb (k .running) noId ≡ true → dispatched k ≡ ran k (firstId (k .ready)) (restOf (k .ready))
     unfolding dispatched turnOf
     case-idle e = rw (on, some-ready, e) refl
@@ -56,11 +58,11 @@ module _ (k : State) (on : eqb (k .started) 0 ≡ false) where
       unfolding dispatched turnOf
       case-held e = rw (on, some-ready, runs, e) refl
 
-      case-stays : eqb (k .hold) 0 ≡ true → ltb (keyOf (k .tasks .level) (firstId (k .ready))) (keyOf (k .tasks .level) (k .running)) ≡ false → dispatched k ≡ k
+      case-stays : eqb (k .hold) 0 ≡ true → ltb (firstMarked (wordOf (k .ready) (k .tasks .level))) (keyOf (k .tasks .level) (k .running)) ≡ false → dispatched k ≡ k
       unfolding dispatched turnOf
       case-stays e f = rw (on, some-ready, runs, e, f) refl
 
-      case-displaced : eqb (k .hold) 0 ≡ true → ltb (keyOf (k .tasks .level) (firstId (k .ready))) (keyOf (k .tasks .level) (k .running)) ≡ true
+      case-displaced : eqb (k .hold) 0 ≡ true → ltb (firstMarked (wordOf (k .ready) (k .tasks .level))) (keyOf (k .tasks .level) (k .running)) ≡ true
           → dispatched k ≡ ran k (firstId (k .ready)) (displaced (k .ready) (k .tasks .level) (k .running))
       unfolding dispatched turnOf
       case-displaced e f = rw (on, some-ready, runs, e, f) refl
@@ -105,13 +107,13 @@ module _ (o : List ℕ) (s : Model) (F : Facts (s .tables)) (on : s .started ≡
       ∙ head-taskListOf lv r l (room (some r) x l P)
       ∙ ap (λ f. taskListOf (insertHead f r l)) (fun-ext (level-read (s .tables) (s .clock)))
 
-  meet-pack : (r : Option ℕ) (l : List ℕ) → Places (placed s r l) [] → dispatched (pack o (placed s r l)) ≡ pack o (meet s r l)
+  meet-pack : (r : Option ℕ) (l : List ℕ) → Places (placed s r l) [] → Asc (levelOf s) l → dispatched (pack o (placed s r l)) ≡ pack o (meet s r l)
   unfolding meet pack idOf taskListOf pad _and_
-  meet-pack r [] P = case-empty (pack o (placed s r [])) (up r []) refl
-  meet-pack none (x ∷ l) P =
-      case-idle (pack o (placed s none (x ∷ l))) (up none (x ∷ l)) (ne-eqb (suc (length l)) 0 (λ e. omega arith)) refl
+  meet-pack r [] P A = case-empty (pack o (placed s r [])) (up r []) (eq-eqb _ 0 (nobody-marked o (placed s r []) F P A refl))
+  meet-pack none (x ∷ l) P A =
+      case-idle (pack o (placed s none (x ∷ l))) (up none (x ∷ l)) (ne-eqb _ 0 (some-level-marked o (placed s none (x ∷ l)) F P A x l refl)) refl
       ∙ ap (λ q. ran (pack o (placed s none (x ∷ l))) x q) (first-leaves x l)
-  meet-pack (some r) (x ∷ l) P = elim (which (eqb (s .hold) 0)) [
+  meet-pack (some r) (x ∷ l) P A = elim (which (eqb (s .hold) 0)) [
     | inl e ↦ elim (which (ltb (levelOf s x) (levelOf s r))) [
       | inl f ↦ case-displaced k (up (some r) (x ∷ l)) many runs e (test ∙ f) ∙ ap (λ q. ran k x q) (displaced-list r x l P) ∙ ap (pack o) (sym (meet-displaces s r x l (true-and _ _ e f)))
       | inr f ↦ case-stays k (up (some r) (x ∷ l)) many runs e (test ∙ f) ∙ ap (pack o) (sym (meet-stays s r x l (rw e f)))
@@ -122,14 +124,14 @@ module _ (o : List ℕ) (s : Model) (F : Facts (s .tables)) (on : s .started ≡
       k : State
       k = pack o (placed s (some r) (x ∷ l))
 
-      many : eqb (suc (length l)) 0 ≡ false
-      many = ne-eqb (suc (length l)) 0 (λ e. omega arith)
+      many : eqb (wordOf (k .ready) (k .tasks .level)) 0 ≡ false
+      many = ne-eqb _ 0 (some-level-marked o (placed s (some r) (x ∷ l)) F P A x l refl)
 
       runs : eqb r noId ≡ false
       runs = ne-eqb r noId (λ e. omega (arith, runner-in r (x ∷ l) P))
 
-      test : ltb (keyOf ((packTasks (s .tables) (s .clock)) .level) x) (keyOf ((packTasks (s .tables) (s .clock)) .level) r) ≡ ltb (levelOf s x) (levelOf s r)
-      test = rw (level-read (s .tables) (s .clock) x, level-read (s .tables) (s .clock) r) refl
+      test : ltb (firstMarked (wordOf (k .ready) (k .tasks .level))) (keyOf (k .tasks .level) r) ≡ ltb (levelOf s x) (levelOf s r)
+      test = rw (first-ready-level o (placed s (some r) (x ∷ l)) F P A x l refl, level-read (s .tables) (s .clock) r) refl
 
 -- what dispatching does in each phase
 dispatch-on : (s : Model) → s .started ≡ true → dispatch s ≡ meet s (s .running) (s .ready)
@@ -144,9 +146,9 @@ case-off : (k : State) → eqb (k .started) 0 ≡ true → dispatched k ≡ k
 unfolding dispatched turnOf
 case-off k e = rw e refl
 
-pub dispatch-pack : (o : List ℕ) (s : Model) → Facts (s .tables) → Places s [] → dispatched (pack o s) ≡ pack o (dispatch s)
+pub dispatch-pack : (o : List ℕ) (s : Model) → Facts (s .tables) → Places s [] → Asc (levelOf s) (s .ready) → dispatched (pack o s) ≡ pack o (dispatch s)
 unfolding pack
-dispatch-pack o s F P = elim (which (s .started)) [
-  | inl e ↦ meet-pack o s F e (s .running) (s .ready) P ∙ ap (pack o) (sym (dispatch-on s e))
+dispatch-pack o s F P A = elim (which (s .started)) [
+  | inl e ↦ meet-pack o s F e (s .running) (s .ready) P A ∙ ap (pack o) (sym (dispatch-on s e))
   | inr e ↦ case-off (pack o s) (rw e refl) ∙ ap (pack o) (sym (dispatch-off s e))
 ]

@@ -15,7 +15,7 @@ use Rattle.lists.specs.CountLaws.{occ-head}
 use Rattle.rules.specs.Levels.{levelIn}
 use Rattle.rules.specs.Settle.{settledReady, settle, meet, dispatch}
 use Rattle.rules.specs.Invariant.{Facts, Places, Runs, Urgent, Started, Inv}
-use Rattle.rules.specs.SettleLaws.{occ-settled, settled-same}
+use Rattle.rules.specs.SettleLaws.{asc-settled, occ-settled, settled-same}
 use Rattle.task_lists.specs.TaskList.{keyOf}
 use Rattle.record.specs.Record.{pack}
 use Rattle.machine.specs.Machine.{settled, dispatched, lined}
@@ -63,6 +63,7 @@ module _ (o : List ℕ) (s : Model) (I : Inv s) where
     unfolding occ
     chosen-pack = dispatch-pack o (settle (levelOf s) e woken) F
         (λ i. omega (arith, P i, occ-settled (taskCount (e .tables)) (levelOf s) (levelOf e) (e .ready) woken i (omega (arith, P i)) (omega (arith, P i))))
+        (asc-settled (taskCount (e .tables)) (levelOf s) (levelOf e) (e .ready) woken)
 
     module _ (a : Asc (levelOf s) (e .ready)) (flags : List ℕ) (f : (i : ℕ) → eqb (keyOf flags i) 1 ≡ member i woken) where
       pub settled-finish : dispatched (settled (packWith o (levelColumn (s .tables)) e) flags) ≡ pack o (dispatch (settle (levelOf s) e woken))

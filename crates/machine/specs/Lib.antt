@@ -2,6 +2,7 @@
 pub mod Machine
 pub mod Planned
 pub mod StageLaws
+pub mod ReadyLevelLaws
 pub mod DispatchLaws
 pub mod FlagLaws
 pub mod WaitLaws

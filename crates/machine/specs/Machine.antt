@@ -15,6 +15,7 @@ use Rattle.rings.specs.Starts.{startIn}
 use Rattle.rules.specs.Step.{level, outcome}
 use Rattle.rules.specs.Effect.{due}
 use Rattle.task_lists.specs.TaskList.{noId, items, taskListOf, keyOf, pushed, inserted, kept, insertedFlagged, counted, bestOf}
+use Rattle.level_marks.specs.Marks.{marksOf, firstMarked, levelAt}
 use Rattle.walks.specs.Walk.{chainFrom}
 use Rattle.record.specs.Record.{ticksLeft, dueAt}
 use Rattle.record.specs.declared.State.{State}  -- keep
@@ -135,13 +136,18 @@ displaced q keys r = inserted (restOf q) keys (keyOf keys r) r
 abbrev pub turn : TaskList → ℕ → Turn
 turn q x = record { ready = q; running = x }
 
+-- the word of level marks of a ready order, by a table of levels
+abbrev pub wordOf : TaskList → List ℕ → ℕ
+wordOf q keys = marksOf (levelAt keys) (items q)
+
+-- ReadyLevelLaws: on a sound record the first marked level is that of the first ready task
 unfoldable pub turnOf : ℕ → TaskList → List ℕ → ℕ → ℕ → Turn
 turnOf started q keys running hold =
     cond (eqb started 0) (turn q running)
-    (cond (eqb (q .n) 0) (turn q running)
+    (cond (eqb (wordOf q keys) 0) (turn q running)
     (cond (eqb running noId) (turn (restOf q) (firstId q))
     (cond (eqb hold 0)
-    (cond (ltb (keyOf keys (firstId q)) (keyOf keys running)) (turn (displaced q keys running) (firstId q)) (turn q running))
+    (cond (ltb (firstMarked (wordOf q keys)) (keyOf keys running)) (turn (displaced q keys running) (firstId q)) (turn q running))
     (turn q running))))
 
 abbrev pub putTurn : State → Turn → State

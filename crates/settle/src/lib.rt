@@ -76,7 +76,8 @@ fn displace(q: TaskList, levels: [u8; TASKS], old: u8) -> TaskList
     task_lists::insert(others, levels, level, old)
 }
 
-// "if nobody runs, the first ready task runs"; it displaces a running one only if hold is 0 and it is strictly more urgent.
+// "if nobody runs, the first ready task runs"; it displaces a running one only if hold is 0 and it is strictly more urgent. The first ready
+// level is worked out from a word of level marks, which is 0 where nobody is ready.
 pub fn dispatch(started: u8, ready: TaskList, levels: [u8; TASKS], running: u8, hold: u8) -> Turn
     ensures { λ r. ⌜ r ≡ turnOf started ready levels running hold ⌝ }
 {
@@ -87,7 +88,8 @@ pub fn dispatch(started: u8, ready: TaskList, levels: [u8; TASKS], running: u8, 
     if started == 0 {
         return stay;
     }
-    if ready.n == 0 {
+    let word = level_marks::marks(ready, levels);
+    if word == 0 {
         return stay;
     }
     let first = ready.ids[0];
@@ -101,7 +103,7 @@ pub fn dispatch(started: u8, ready: TaskList, levels: [u8; TASKS], running: u8, 
     if hold != 0 {
         return stay;
     }
-    if task_lists::key_of(levels, first) < task_lists::key_of(levels, running) {
+    if level_marks::first_level(word) < task_lists::key_of(levels, running) {
         let others = displace(ready, levels, running);
         return Turn {
             ready: others,

@@ -1,5 +1,4 @@
 -- `level_marks::first_level` meets its contract. Assumes nothing.
-use Prim.Native.Nat.{_≤_}
 use native.Mathlib.Omega.{arith}
 use lib.Count.{trailing-le}
 use Rattle.rules.specs.Sizes.{levels}
