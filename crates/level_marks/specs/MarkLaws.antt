@@ -7,7 +7,7 @@ use Prim.Native.Nat.{ℕ, _^_, _≤_, _<_}
 use native.Mathlib.Omega.{arith}
 use native.Mathlib.Decide.{ℕ-discrete}
 use lib.Dec.{ltb, eqb}
-use lib.ListN.{getD}
+use lib.ListN.{length, getD}
 use lib.Bits.{bitOr}
 use borrow.Author.Tests.{eq-eqb, eqb-true, lt-ltb, ltb-true}
 use Rattle.lists.specs.Test.{_or_}
@@ -18,7 +18,7 @@ use Rattle.lists.specs.CountLaws.{eqn-other, occ-head}
 use Rattle.lists.specs.OrderLaws.{asc-first}
 use Rattle.rules.specs.Sizes.{taskPlaces, levels}
 use Rattle.level_marks.specs.Bits.{wordWhere, isSet, firstWhere}
-use Rattle.level_marks.specs.Marks.{readyAt, marksOf, markOf, firstMarked, levelAt}
+use Rattle.level_marks.specs.Marks.{readyAt, marksOf, markOf, firstMarked, levelAt, marksIn}
 use Rattle.level_marks.specs.BitLaws.{set-where, where-in, none-where, zero-set, zero-word, or-where, first-same, first-found, first-none, none-before}
 
 -- "none is found exactly when the word is 0", for every word with a bit for each level
@@ -29,7 +29,7 @@ module _ (level : ℕ → ℕ) where
   -- who is ready at a level
   ready-there : (ready : List ℕ) (l : ℕ) → readyAt level ready l ≡ true → (x : ℕ) × (1 ≤ occ x ready) × (level x ≡ l)
   unfolding readyAt occ
-  ready-there [] l e = absurd (let z : _≡_ {A = ℕ} 0 1 = cc in omega arith)
+  ready-there [] l e = absurd (clash e refl)
   ready-there (x ∷ ready) l e = elim (or-true _ _ e) [
     | inl f ↦ (x, occ-head x ready, eqb-true (level x) l f)
     | inr f ↦ (let r = ready-there ready l f in (r .0, omega (arith, r .1), r .2))
@@ -64,7 +64,7 @@ module _ (level : ℕ → ℕ) where
         | inr e ↦ e
       ]
 
-  -- a word of marks is such a word
+  -- a word of marks has a bit for each level
   pub marks-in : (ready : List ℕ) → marksOf level ready < 2 ^ levels
   marks-in ready = where-in levels (readyAt level ready)
 
@@ -80,6 +80,11 @@ module _ (level : ℕ → ℕ) where
 
   pub marks-more : (ready : List ℕ) (x : ℕ) → bitOr (marksOf level ready) (markOf (level x)) ≡ marksOf level (ready ++ (x ∷ []))
   marks-more ready x = or-where levels (readyAt level ready) (eqb (level x)) ∙ ap (wordWhere levels) (fun-ext (ready-more ready x))
+
+  -- where there is a mark somebody is ready
+  pub marked-somebody : (ready : List ℕ) → (marksOf level ready ≡ 0 → ⊥) → 0 < length ready
+  marked-somebody [] h = absurd (h marks-nobody)
+  marked-somebody (x ∷ ready) h = omega arith
 
   -- a ready task of one of the levels leaves a mark
   pub some-marked : (ready : List ℕ) (x : ℕ) → 1 ≤ occ x ready → level x < levels → marksOf level ready ≡ 0 → ⊥
@@ -99,8 +104,8 @@ has-place table x h = elim (which (ltb x taskPlaces)) [
 
 -- the mark law for a table of levels: bit l is set exactly when a task that has a place there, of level l, is ready
 pub mark-law-table : (table ready : List ℕ) (l : ℕ) → l < levels
-    → (isSet (marksOf (levelAt table) ready) l ≡ true → (x : ℕ) × (1 ≤ occ x ready) × (x < taskPlaces) × (getD table x 0 ≡ l))
-    × ((x : ℕ) → 1 ≤ occ x ready → x < taskPlaces → getD table x 0 ≡ l → isSet (marksOf (levelAt table) ready) l ≡ true)
+    → (isSet (marksIn table ready) l ≡ true → (x : ℕ) × (1 ≤ occ x ready) × (x < taskPlaces) × (getD table x 0 ≡ l))
+    × ((x : ℕ) → 1 ≤ occ x ready → x < taskPlaces → getD table x 0 ≡ l → isSet (marksIn table ready) l ≡ true)
 mark-law-table table ready l h =
     let law = mark-law (levelAt table) ready l h in (
       (λ e.

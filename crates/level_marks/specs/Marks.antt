@@ -21,10 +21,14 @@ marksOf level ready = wordWhere levels (readyAt level ready)
 abbrev pub markOf : ℕ → ℕ
 markOf l = wordWhere levels (eqb l)
 
--- "the first ready level worked out from a word": the first marked one, the number of levels where "none is found"
+-- "the first ready level worked out from a word": the first marked one; 32, the number of levels, where "none is found"
 abbrev pub firstMarked : ℕ → ℕ
 firstMarked word = firstWhere levels (isSet word)
 
 -- a task's level in a table; an id that has no place there is no task, and has none of the levels
 unfoldable pub levelAt : List ℕ → ℕ → ℕ
 levelAt table x = cond (ltb x taskPlaces) (getD table x 0) levels
+
+-- the word of level marks by a table of levels
+abbrev pub marksIn : List ℕ → List ℕ → ℕ
+marksIn table ready = marksOf (levelAt table) ready

@@ -20,13 +20,13 @@ use Rattle.rules.specs.Sizes.{taskPlaces}
 use Rattle.rules.specs.Tables.{taskCount}
 use Rattle.rules.specs.Settle.{meet, dispatch}
 use Rattle.rules.specs.Invariant.{Facts, Places}
-use Rattle.task_lists.specs.TaskList.{places, noId, taskListOf, keyOf, inserted, idOf}
+use Rattle.task_lists.specs.TaskList.{places, noId, items, taskListOf, keyOf, inserted, idOf}
 use Rattle.task_lists.specs.TaskListLaws.{items-taskListOf, head-taskListOf}
-use Rattle.level_marks.specs.Marks.{firstMarked}
+use Rattle.level_marks.specs.Marks.{marksIn, firstMarked}
 use Rattle.record.specs.Record.{packTasks, pack}
 use Rattle.record.specs.Reads.{firstId}
 use Rattle.record.specs.Setters.{putReady, putRunning}
-use Rattle.machine.specs.Machine.{restOf, displaced, wordOf, turnOf, dispatched}
+use Rattle.machine.specs.Machine.{restOf, displaced, turnOf, dispatched}
 use Rattle.record.specs.ReadLaws.{level-read}
 use Rattle.machine.specs.ReadyLevelLaws.{nobody-marked, some-level-marked, first-ready-level}
 use Rattle.record.specs.declared.State.{State}  -- keep
@@ -44,11 +44,11 @@ ran k x q = putRunning (putReady k q) x
 
 -- what the code does in each case
 module _ (k : State) (on : eqb (k .started) 0 ≡ false) where
-  case-empty : eqb (wordOf (k .ready) (k .tasks .level)) 0 ≡ true → dispatched k ≡ k
+  case-empty : eqb (marksIn (k .tasks .level) (items (k .ready))) 0 ≡ true → dispatched k ≡ k
   unfolding dispatched turnOf
   case-empty e = rw (on, e) refl
 
-  module _ (some-ready : eqb (wordOf (k .ready) (k .tasks .level)) 0 ≡ false) where
+  module _ (some-ready : eqb (marksIn (k .tasks .level) (items (k .ready))) 0 ≡ false) where
     case-idle : eqb (k .running) noId ≡ true → dispatched k ≡ ran k (firstId (k .ready)) (restOf (k .ready))
     unfolding dispatched turnOf
     case-idle e = rw (on, some-ready, e) refl
@@ -58,11 +58,11 @@ module _ (k : State) (on : eqb (k .started) 0 ≡ false) where
       unfolding dispatched turnOf
       case-held e = rw (on, some-ready, runs, e) refl
 
-      case-stays : eqb (k .hold) 0 ≡ true → ltb (firstMarked (wordOf (k .ready) (k .tasks .level))) (keyOf (k .tasks .level) (k .running)) ≡ false → dispatched k ≡ k
+      case-stays : eqb (k .hold) 0 ≡ true → ltb (firstMarked (marksIn (k .tasks .level) (items (k .ready)))) (keyOf (k .tasks .level) (k .running)) ≡ false → dispatched k ≡ k
       unfolding dispatched turnOf
       case-stays e f = rw (on, some-ready, runs, e, f) refl
 
-      case-displaced : eqb (k .hold) 0 ≡ true → ltb (firstMarked (wordOf (k .ready) (k .tasks .level))) (keyOf (k .tasks .level) (k .running)) ≡ true
+      case-displaced : eqb (k .hold) 0 ≡ true → ltb (firstMarked (marksIn (k .tasks .level) (items (k .ready)))) (keyOf (k .tasks .level) (k .running)) ≡ true
           → dispatched k ≡ ran k (firstId (k .ready)) (displaced (k .ready) (k .tasks .level) (k .running))
       unfolding dispatched turnOf
       case-displaced e f = rw (on, some-ready, runs, e, f) refl
@@ -109,9 +109,9 @@ module _ (o : List ℕ) (s : Model) (F : Facts (s .tables)) (on : s .started ≡
 
   meet-pack : (r : Option ℕ) (l : List ℕ) → Places (placed s r l) [] → Asc (levelOf s) l → dispatched (pack o (placed s r l)) ≡ pack o (meet s r l)
   unfolding meet pack idOf taskListOf pad _and_
-  meet-pack r [] P A = case-empty (pack o (placed s r [])) (up r []) (eq-eqb _ 0 (nobody-marked o (placed s r []) F P A refl))
+  meet-pack r [] P A = case-empty (pack o (placed s r [])) (up r []) (eq-eqb _ 0 (nobody-marked o (placed s r []) refl))
   meet-pack none (x ∷ l) P A =
-      case-idle (pack o (placed s none (x ∷ l))) (up none (x ∷ l)) (ne-eqb _ 0 (some-level-marked o (placed s none (x ∷ l)) F P A x l refl)) refl
+      case-idle (pack o (placed s none (x ∷ l))) (up none (x ∷ l)) (ne-eqb _ 0 (some-level-marked o (placed s none (x ∷ l)) F P x l refl)) refl
       ∙ ap (λ q. ran (pack o (placed s none (x ∷ l))) x q) (first-leaves x l)
   meet-pack (some r) (x ∷ l) P A = elim (which (eqb (s .hold) 0)) [
     | inl e ↦ elim (which (ltb (levelOf s x) (levelOf s r))) [
@@ -124,14 +124,14 @@ module _ (o : List ℕ) (s : Model) (F : Facts (s .tables)) (on : s .started ≡
       k : State
       k = pack o (placed s (some r) (x ∷ l))
 
-      many : eqb (wordOf (k .ready) (k .tasks .level)) 0 ≡ false
-      many = ne-eqb _ 0 (some-level-marked o (placed s (some r) (x ∷ l)) F P A x l refl)
+      many : eqb (marksIn (k .tasks .level) (items (k .ready))) 0 ≡ false
+      many = ne-eqb _ 0 (some-level-marked o (placed s (some r) (x ∷ l)) F P x l refl)
 
       runs : eqb r noId ≡ false
       runs = ne-eqb r noId (λ e. omega (arith, runner-in r (x ∷ l) P))
 
-      test : ltb (firstMarked (wordOf (k .ready) (k .tasks .level))) (keyOf (k .tasks .level) r) ≡ ltb (levelOf s x) (levelOf s r)
-      test = rw (first-ready-level o (placed s (some r) (x ∷ l)) F P A x l refl, level-read (s .tables) (s .clock) r) refl
+      test : ltb (firstMarked (marksIn (k .tasks .level) (items (k .ready)))) (keyOf (k .tasks .level) r) ≡ ltb (levelOf s x) (levelOf s r)
+      test = rw (first-ready-level o (placed s (some r) (x ∷ l)) F P x l refl A, level-read (s .tables) (s .clock) r) refl
 
 -- what dispatching does in each phase
 dispatch-on : (s : Model) → s .started ≡ true → dispatch s ≡ meet s (s .running) (s .ready)

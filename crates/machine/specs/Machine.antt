@@ -15,7 +15,7 @@ use Rattle.rings.specs.Starts.{startIn}
 use Rattle.rules.specs.Step.{level, outcome}
 use Rattle.rules.specs.Effect.{due}
 use Rattle.task_lists.specs.TaskList.{noId, items, taskListOf, keyOf, pushed, inserted, kept, insertedFlagged, counted, bestOf}
-use Rattle.level_marks.specs.Marks.{marksOf, firstMarked, levelAt}
+use Rattle.level_marks.specs.Marks.{marksIn, firstMarked}
 use Rattle.walks.specs.Walk.{chainFrom}
 use Rattle.record.specs.Record.{ticksLeft, dueAt}
 use Rattle.record.specs.declared.State.{State}  -- keep
@@ -136,18 +136,14 @@ displaced q keys r = inserted (restOf q) keys (keyOf keys r) r
 abbrev pub turn : TaskList → ℕ → Turn
 turn q x = record { ready = q; running = x }
 
--- the word of level marks of a ready order, by a table of levels
-abbrev pub wordOf : TaskList → List ℕ → ℕ
-wordOf q keys = marksOf (levelAt keys) (items q)
-
--- ReadyLevelLaws: on a sound record the first marked level is that of the first ready task
+-- who runs next, by the word of level marks; ReadyLevelLaws: the first marked level is the first ready task's where the order ascends
 unfoldable pub turnOf : ℕ → TaskList → List ℕ → ℕ → ℕ → Turn
 turnOf started q keys running hold =
     cond (eqb started 0) (turn q running)
-    (cond (eqb (wordOf q keys) 0) (turn q running)
+    (cond (eqb (marksIn keys (items q)) 0) (turn q running)
     (cond (eqb running noId) (turn (restOf q) (firstId q))
     (cond (eqb hold 0)
-    (cond (ltb (firstMarked (wordOf q keys)) (keyOf keys running)) (turn (displaced q keys running) (firstId q)) (turn q running))
+    (cond (ltb (firstMarked (marksIn keys (items q))) (keyOf keys running)) (turn (displaced q keys running) (firstId q)) (turn q running))
     (turn q running))))
 
 abbrev pub putTurn : State → Turn → State

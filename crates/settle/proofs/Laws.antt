@@ -1,19 +1,15 @@
--- A list moved one place down, place by place; and that somebody stands in a list with a mark.
+-- A list moved one place down, place by place.
 use mathlib.Core.Path.{_≡_, refl, ap, sym, _∙_}
 use mathlib.Core.List.{List, _++_}
 use Prim.Native.Nat.{ℕ, zero, suc, _+_, _-_, _<_}
 use native.Mathlib.Omega.{arith}
-use native.Mathlib.Decide.{ℕ-discrete}
-use lib.ListN.{length, getD, take, drop, replicate, length-take, length-drop}
+use lib.ListN.{length, getD, drop, replicate, length-take, length-drop}
 use lib.Seq.{getD-drop, getD-take}
 use Rattle.lists.specs.Table.{pad, filled}
 use Rattle.lists.specs.FillLaws.{soFar}
 use Rattle.lists.specs.TableLaws.{filled-is}
 use Rattle.rules.specs.Sizes.{taskPlaces}
 use Rattle.task_lists.specs.TaskList.{noId, items, taskListOf}
-use Rattle.level_marks.specs.Marks.{marksOf, levelAt}
-use Rattle.level_marks.specs.MarkLaws.{marks-nobody}
-use Rattle.machine.specs.Machine.{wordOf}
 use Rattle.task_lists.specs.declared.TaskList.{TaskList}
 
 -- who stands one place on
@@ -40,10 +36,3 @@ module _ (q : TaskList) (i : ℕ) (all : i + 1 ≡ length (items q)) where
 
       moved : filled i (oneOn (q .ids)) ≡ drop 1 (items q)
       moved = filled-is i (oneOn (q .ids)) 0 (drop 1 (items q)) (sym shift-size) one
-
--- somebody stands in a list whose word of level marks isn't 0
-pub marked-some : (q : TaskList) (keys : List ℕ) → (wordOf q keys ≡ 0 → ⊥) → 0 < q .n
-marked-some q keys h = elim (ℕ-discrete (q .n) 0) [
-  | yes e ↦ absurd (h (ap (λ (n : ℕ). marksOf (levelAt keys) (take n (q .ids))) e ∙ marks-nobody (levelAt keys)))
-  | no n ↦ omega (arith, n)
-]

@@ -7,13 +7,13 @@ use lib.ListN.{length, getD, take}
 use lib.Seq.{take-length}
 use Rattle.task_lists.specs.TaskList.{items, places}
 use Rattle.task_lists.specs.ItemLaws.{items-few, items-take}
-use Rattle.level_marks.specs.Marks.{levelAt, marksOf}
+use Rattle.level_marks.specs.Marks.{levelAt, marksIn}
 use Rattle.level_marks.specs.MarkLaws.{marks-nobody, marks-more}
 use Rattle.level_marks.proofs.marks.Statement.{statement}
 use Rattle.level_marks.proofs.marks.Tie as tie
 
 abbrev Inv-loop : tie.InvT-loop
-Inv-loop ready levels n word₀ i₀ word i = (i ≤ n) × (word ≡ marksOf (levelAt levels) (take i (items ready)))
+Inv-loop ready levels n word₀ i₀ word i = (i ≤ n) × (word ≡ marksIn levels (take i (items ready)))
 
 abbrev μ-loop : tie.MeasureT-loop
 μ-loop ready levels n word₀ i₀ word i = n - i

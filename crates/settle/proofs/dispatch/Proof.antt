@@ -3,9 +3,11 @@ use borrow.Author.Needs.{needs}
 use native.Mathlib.Omega.{arith}
 use borrow.Author.Tests.{eq-eqb, le-ltb, lt-ltb, ne-eqb}
 use mathlib.Core.Path.{refl, ap, sym, _∙_}
+use lib.ListN.{length-take}
+use Rattle.task_lists.specs.TaskList.{items}
 use Rattle.level_marks.specs.Marks.{firstMarked}
+use Rattle.level_marks.specs.MarkLaws.{marked-somebody}
 use Rattle.machine.specs.Machine.{turnOf}
-use Rattle.settle.proofs.Laws.{marked-some}
 use Rattle.settle.proofs.dispatch.Statement.{statement}
 use Rattle.settle.proofs.dispatch.Tie as tie
 
@@ -26,7 +28,8 @@ element-copy-out-first c = search needs
 rest-requires : tie.Need-rest-requires
 rest-requires c κs =
     let m = c .before .before .before in
-    marked-some (m .before .before .args .t2) (m .before .before .args .levels) (λ e. c .before .before .if2 .left (m .marks .ensures ∙ e))
+    let q = m .before .before .args .t2 in
+    omega (arith, length-take (q .n) (q .ids), marked-somebody _ (items q) (λ e. c .before .before .if2 .left (m .marks .ensures ∙ e)))
 
 returns-3 : tie.Need-returns-3
 unfolding turnOf
@@ -49,7 +52,8 @@ key-of-requires c κs = search needs
 displace-requires : tie.Need-displace-requires
 displace-requires c κs =
     let m = c .before .before .before .before .before .before .before in
-    marked-some (m .before .before .args .t2) (m .before .before .args .levels) (λ e. c .before .before .before .before .before .before .if2 .left (m .marks .ensures ∙ e))
+    let q = m .before .before .args .t2 in
+    omega (arith, length-take (q .n) (q .ids), marked-somebody _ (items q) (λ e. c .before .before .before .before .before .before .if2 .left (m .marks .ensures ∙ e)))
 
 returns-5 : tie.Need-returns-5
 unfolding turnOf
