@@ -18,8 +18,6 @@ use record::State;
 use record::TASK_PLACES;
 use record::TASKS;
 use record::Tasks;
-use sound_queues::held;
-use sound_queues::waiters;
 use task_lists::TaskList;
 
 // No more of each than there are places, and the running task is one of them.
@@ -159,7 +157,7 @@ fn waits_in<'a>(
     if !sound_objects::blocked(wait, object, &next, &empty, c.n) {
         return false;
     }
-    if !waiters::fit(wait, object, x, words) {
+    if !sound_waiters::fit(wait, object, x, words) {
         return false;
     }
     sound_places::owners_end(&next, &owner, &queues)
@@ -202,7 +200,7 @@ fn tables_in(s: State, words: &[u32], space: usize) -> bool
     if !queues_in(s.queues, s.tasks.n, space) {
         return false;
     }
-    if !held::words_tidy(words, s.tasks.n) {
+    if !sound_words::words_tidy(words, s.tasks.n) {
         return false;
     }
     lists_in(s.ready, s.waiting, s.tasks.n)

@@ -5,7 +5,6 @@ use record::MUTEXES;
 use record::NONE;
 use record::QUEUES;
 use record::TASKS;
-use sound_queues::held;
 use task_lists::TaskList;
 
 // After start: a task runs if any is ready; hold only with a running task; at hold 0 none ready is more urgent.
@@ -64,7 +63,7 @@ pub fn set_up_in(
     if !sound_queues::all_empty(&used) {
         return false;
     }
-    if !held::words_zero(words) {
+    if !sound_words::words_zero(words) {
         return false;
     }
     task_list_checks::ties_by_id(ready, levels)

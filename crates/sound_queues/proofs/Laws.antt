@@ -1,51 +1,15 @@
--- A test of the words from a first one on, made only as far as the lent words reach; waits none of which is for a queue; and no queue made.
+-- No queue made: column by column, and place by place.
 use mathlib.Core.Path.{_≡_, refl, ap, sym, _∙_}
-use mathlib.Core.Logic.{_⊎_, inl, inr}
-use mathlib.Core.List.{List}
-use mathlib.Core.Bool.{Bool, true, false, not}
-use Prim.Native.Nat.{ℕ, _*_, _≤_, min}
+use mathlib.Core.Bool.{Bool, false}
+use Prim.Native.Nat.{ℕ}
 use native.Mathlib.Omega.{arith}
-use native.Mathlib.Decide.{decLt}
-use lib.Dec.{ltb, eqb}
-use lib.ListN.{length, getD, List·getD-eq-default}
-use borrow.Author.Tests.{lt-ltb, le-ltb, eq-eqb, not-true}
+use lib.Dec.{ltb}
+use borrow.Author.Tests.{le-ltb}
 use Rattle.lists.specs.Test.{_and_, _or_, allb}
-use Rattle.lists.specs.TestLaws.{or-none, or-l, or-r, all-true, true-all, all-same, all-and, all-used}
-use Rattle.rules.specs.Sizes.{taskPlaces, maxQueues, heldWords, onSend, onReceive}
-use Rattle.checks.specs.Checks.{unusedAt, queueFits, queueFitsAt, freeAt, queueWaitFits, queueWaitsIn}
+use Rattle.lists.specs.TestLaws.{all-same, all-and}
+use Rattle.rules.specs.Sizes.{maxQueues}
+use Rattle.checks.specs.Checks.{unusedAt, queueFits, queueFitsAt, freeAt}
 use Rattle.record.specs.declared.Queues.{Queues}
-
--- the words that all tasks hold
-abbrev all : ℕ
-all = heldWords * taskPlaces
-
-module _ (words : List ℕ) (first : ℕ) where
-  -- the words before the first pass
-  pub unused-front : true ≡ allb first (unusedAt words first)
-  unused-front = sym (true-all first (unusedAt words first) (λ i h. or-l _ _ (lt-ltb i first h)))
-
-  -- and so do those behind the end
-  unused-behind : (k : ℕ) → k ≤ all → min (length words) all ≤ k → allb k (unusedAt words first) ≡ allb all (unusedAt words first)
-  unused-behind k h g = sym (all-used k all (unusedAt words first) h (λ i l m.
-      or-r _ _ (eq-eqb _ _ (List·getD-eq-default words 0 {n = i} (omega arith)))))
-
-  -- so a test that went on to the end, or had nothing to go through, is that of all words
-  pub unused-end : (k : ℕ) → (k ≤ all) ⊎ (k ≤ first) → min (length words) all ≤ k → allb k (unusedAt words first) ≡ allb all (unusedAt words first)
-  unused-end k (inl h) g = unused-behind k h g
-  unused-end k (inr h) g = elim (decLt k all) [
-    | yes l ↦ unused-behind k (omega arith) g
-    | no l ↦ all-used all k (unusedAt words first) (omega arith) (λ i m n. or-l _ _ (lt-ltb i first (omega arith)))
-  ]
-
--- task i waits for no queue
-abbrev pub elsewhereAt : List ℕ → ℕ → Bool
-elsewhereAt waits i = not (eqb (getD waits i 0) onSend or eqb (getD waits i 0) onReceive)
-
--- where nobody waits at a queue nothing is asked
-pub none-waits-fit : (waits objects : List ℕ) (x : Queues) (words : List ℕ) → allb taskPlaces (elsewhereAt waits) ≡ true → true ≡ queueWaitsIn waits objects x words
-unfolding queueWaitsIn queueWaitFits
-none-waits-fit waits objects x words e = sym (true-all taskPlaces _ (λ i h.
-    (let n = or-none _ _ (not-true _ (all-true taskPlaces (elsewhereAt waits) e i h)) in rw (n .0, n .1) refl)))
 
 -- where no queue is made, every place is as in the fresh record: column by column, and place by place
 pub none-made-fits : (x : Queues) (tasks : ℕ) → x .n ≡ 0

@@ -1,7 +1,4 @@
 // The table of queues: one function for each phrase of "sound state" about it, over all places at once.
-pub mod held;
-pub mod waiters;
-
 ghost use mathlib.Core.Path.{_≡_};
 ghost use lib.Dec.{leb};
 ghost use Rattle.lists.specs.Test.{_and_, allb};
