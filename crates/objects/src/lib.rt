@@ -1,6 +1,4 @@
 // Tasks, mutexes, semaphores and queues made, and what is theirs changed.
-pub mod queues;
-
 ghost use mathlib.Core.Path.{_≡_};
 ghost use Rattle.machine.specs.Machine.{ownerSet, countSet, usedSet, oldestSet, taskAdded, mutexAdded, semAdded, queueAdded};
 use record::MUTEXES;

@@ -7,7 +7,6 @@ ghost use Rattle.moves.specs.declared.Move.the-variants.{Take, Swap};
 ghost use Rattle.machine.specs.Machine.{widthAt, usedAt, placeAt, bestAt, orderBehind, orderWith, sendWaits, delivered, sendStep, takenIn, mayTake, receiveStep};
 use machine::Order;
 use moves::Move;
-use objects::queues;
 use record::GRANTED;
 use record::Mutexes;
 use record::NONE;
@@ -73,7 +72,7 @@ fn wait_for_room(mut s: State, q: u8, time: u32) -> Plan
     let owners = mutexes.owner;
     let x = s.queues;
     let receivers = x.owner;
-    let owner = queues::owner_at(x, q);
+    let owner = queue_places::owner_at(x, q);
     let f = leads::chain(t, owners, receivers, owner, caller);
     if f.ring {
         return answers::answer(s, 12, f.links as u32);
@@ -100,8 +99,8 @@ fn deliver(mut s: State, q: u8) -> Plan
     let best = waits::best_for(s.tasks, s.waiting, ON_RECEIVE, q);
     if best == NONE {
         let x = s.queues;
-        let used = queues::used_at(x, q);
-        let place = queues::place_of(x, q, used);
+        let used = queue_places::used_at(x, q);
+        let place = queue_places::place_of(x, q, used);
         s.queues = objects::set_used(x, q, used + 1);
         return answers::moving(s, 0, 0, Move::Queue { place: place });
     }
@@ -129,13 +128,13 @@ pub fn send(s: State, queue: u32, time: u32, count: usize) -> Plan
     }
     let q = queue as u8;
     let x = s.queues;
-    if count != queues::width_at(x, q) as usize {
+    if count != queue_places::width_at(x, q) as usize {
         return answers::answer(s, 7, 0);
     }
-    if queues::used_at(x, q) < queues::depth_at(x, q) {
+    if queue_places::used_at(x, q) < queue_places::depth_at(x, q) {
         return deliver(s, q);
     }
-    if queues::owner_at(x, q) == s.running {
+    if queue_places::owner_at(x, q) == s.running {
         return answers::answer(s, 9, 0);
     }
     wait_for_room(s, q, time)
@@ -145,8 +144,8 @@ pub fn send(s: State, queue: u32, time: u32, count: usize) -> Plan
 fn taken(x: Queues, q: u8, k: u8, task: u8) -> Move
     ensures { λ r. ⌜ r ≡ Take (placeAt x q k) (widthAt x q) task ⌝ }
 {
-    let place = queues::place_of(x, q, k);
-    let width = queues::width_at(x, q);
+    let place = queue_places::place_of(x, q, k);
+    let width = queue_places::width_at(x, q);
     Move::Take {
         place: place,
         width: width,
@@ -158,8 +157,8 @@ fn taken(x: Queues, q: u8, k: u8, task: u8) -> Move
 fn swapped(x: Queues, q: u8, task: u8, sender: u8) -> Move
     ensures { λ r. ⌜ r ≡ Swap (placeAt x q 0) (widthAt x q) task sender ⌝ }
 {
-    let left = queues::place_of(x, q, 0);
-    let width = queues::width_at(x, q);
+    let left = queue_places::place_of(x, q, 0);
+    let width = queue_places::width_at(x, q);
     Move::Swap {
         place: left,
         width: width,
@@ -175,10 +174,10 @@ fn take(mut s: State, q: u8) -> Plan
 {
     let caller = s.running;
     let x = s.queues;
-    let moved = objects::set_oldest(x, q, queues::next_oldest(x, q));
+    let moved = objects::set_oldest(x, q, queue_places::next_oldest(x, q));
     let best = waits::best_for(s.tasks, s.waiting, ON_SEND, q);
     if best == NONE {
-        let left = queues::used_at(x, q) - 1;
+        let left = queue_places::used_at(x, q) - 1;
         s.queues = objects::set_used(moved, q, left);
         return answers::moving(s, 0, 0, taken(x, q, 0, caller));
     }
@@ -189,7 +188,7 @@ fn take(mut s: State, q: u8) -> Plan
     s.waiting = task_lists::keep_flagged(s.waiting, flags, 0);
     let mutexes = s.mutexes;
     let receivers = moved.owner;
-    let owner = queues::owner_at(moved, q);
+    let owner = queue_places::owner_at(moved, q);
     let ready = s.ready;
     let order = order_with(owner, tasks, mutexes, receivers, ready, flags);
     let levels = order.level;
@@ -222,10 +221,10 @@ pub fn receive(mut s: State, queue: u32, time: u32) -> Plan
     }
     let q = queue as u8;
     let x = s.queues;
-    if !may_take(queues::owner_at(x, q), s.running) {
+    if !may_take(queue_places::owner_at(x, q), s.running) {
         return answers::answer(s, 10, 0);
     }
-    if queues::used_at(x, q) != 0 {
+    if queue_places::used_at(x, q) != 0 {
         return take(s, q);
     }
     let not_now = refusals::of_wait(s.hold, time);

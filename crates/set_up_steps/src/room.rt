@@ -7,7 +7,6 @@ ghost use Rattle.lists.specs.Test.{_and_};
 ghost use Rattle.rules.specs.Sizes.{maxQueues, maxDepth, heldWords};
 ghost use Rattle.rules.specs.Sound.{isWidth, isDepth};
 ghost use Rattle.machine.specs.Machine.{tooLarge};
-use objects::queues;
 use record::MAX_DEPTH;
 use record::MAX_QUEUES;
 use record::Queues;
@@ -55,7 +54,7 @@ pub fn refusal(x: Queues, width: u32, depth: u32, space: usize) -> u8
     if MAX_QUEUES <= x.n {
         return 8;
     }
-    let end = queues::start_of(x, x.n) + width * depth;
+    let end = queue_places::start_of(x, x.n) + width * depth;
     if space < end as usize {
         return 8;
     }

@@ -1,9 +1,9 @@
--- `objects::queues::next_oldest` meets its contract: the place behind the oldest, or the first where that is the last.
+-- `queue_places::next_oldest` meets its contract: the place behind the oldest, or the first where that is the last.
 use borrow.Author.Needs.{needs}
 use mathlib.Core.Path.{refl}
 use borrow.Author.Tests.{lt-ltb, le-ltb}
-use Rattle.objects.proofs.queues.next_oldest.Statement.{statement}
-use Rattle.objects.proofs.queues.next_oldest.Tie as tie
+use Rattle.queue_places.proofs.next_oldest.Statement.{statement}
+use Rattle.queue_places.proofs.next_oldest.Tie as tie
 
 oldest-at-requires : tie.Need-oldest-at-requires
 oldest-at-requires c κs = search needs

@@ -1,4 +1,4 @@
--- `objects::queues::owner_at` meets its contract.
+-- `queue_places::owner_at` meets its contract.
 use borrow.Author.Needs.{needs}
 use mathlib.Core.Path.{_≡_, sym}
 use native.Mathlib.Omega.{arith}
@@ -6,8 +6,8 @@ use lib.ListN.{List·getD-eq-default, length}
 use Rattle.task_lists.specs.TaskList.{noId}
 use Rattle.lists.specs.TableLaws.{read-any}
 use Rattle.rules.specs.Sizes.{maxQueues}
-use Rattle.objects.proofs.queues.owner_at.Statement.{statement}
-use Rattle.objects.proofs.queues.owner_at.Tie as tie
+use Rattle.queue_places.proofs.owner_at.Statement.{statement}
+use Rattle.queue_places.proofs.owner_at.Tie as tie
 
 returns : tie.Need-returns
 returns c = let a = c .before .args in let g : length (a .t1 .owner) ≡ maxQueues = search needs in sym (List·getD-eq-default (a .t1 .owner) noId (omega arith))

@@ -1,10 +1,10 @@
--- `objects::queues::start_of` meets its contract: bytes lead to few words.
+-- `queue_places::start_of` meets its contract: bytes lead to few words.
 use borrow.Author.Needs.{needs}
 use native.Mathlib.Omega.{arith}
-use Rattle.objects.proofs.Facts.{width-byte, depth-byte}
-use Rattle.objects.proofs.Laws.{start-in-small}
-use Rattle.objects.proofs.queues.start_of.Statement.{statement}
-use Rattle.objects.proofs.queues.start_of.Tie as tie
+use Rattle.queue_places.proofs.Facts.{width-byte, depth-byte}
+use Rattle.queue_places.proofs.Laws.{start-in-small}
+use Rattle.queue_places.proofs.start_of.Statement.{statement}
+use Rattle.queue_places.proofs.start_of.Tie as tie
 
 start-requires : tie.Need-start-requires
 start-requires c κs = search needs

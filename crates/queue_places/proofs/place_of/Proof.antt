@@ -1,12 +1,12 @@
--- `objects::queues::place_of` meets its contract.
+-- `queue_places::place_of` meets its contract.
 use borrow.Author.Needs.{needs}
 use mathlib.Core.Path.{refl}
 use Prim.Native.Nat.{_≤_}
 use native.Mathlib.Omega.{arith}
 use native.Mathlib.Nat.{mul-le-mul}
-use Rattle.objects.proofs.Laws.{slot-small}
-use Rattle.objects.proofs.queues.place_of.Statement.{statement}
-use Rattle.objects.proofs.queues.place_of.Tie as tie
+use Rattle.queue_places.proofs.Laws.{slot-small}
+use Rattle.queue_places.proofs.place_of.Statement.{statement}
+use Rattle.queue_places.proofs.place_of.Tie as tie
 
 start-of-requires : tie.Need-start-of-requires
 start-of-requires c κs = search needs

@@ -1,11 +1,11 @@
--- `objects::queues::width_at` meets its contract.
+-- `queue_places::width_at` meets its contract.
 use borrow.Author.Needs.{needs}
 use mathlib.Core.Path.{_≡_, sym}
 use native.Mathlib.Omega.{arith}
 use lib.ListN.{List·getD-eq-default, length}
 use Rattle.rules.specs.Sizes.{maxQueues}
-use Rattle.objects.proofs.queues.width_at.Statement.{statement}
-use Rattle.objects.proofs.queues.width_at.Tie as tie
+use Rattle.queue_places.proofs.width_at.Statement.{statement}
+use Rattle.queue_places.proofs.width_at.Tie as tie
 
 returns : tie.Need-returns
 returns c = let a = c .before .args in let g : length (a .t1 .width) ≡ maxQueues = search needs in sym (List·getD-eq-default (a .t1 .width) 0 (omega arith))
