@@ -96,7 +96,7 @@ static void set_time(struct lean *k, struct lean_task *t, uint32_t time)
 {
     struct lean_link *at = k->timed.next;
     t->due = k->clock + time;
-    /* Ticks left, not due times, are compared: the clock wraps. */
+    /* Ticks left, not due times, are compared: the clock wraps. Behind those that end with it, which are older. */
     while (at != &k->timed && timed_at(at)->due - k->clock <= time)
         at = at->next;
     put_before(at, &t->timed);
@@ -488,13 +488,11 @@ static uint64_t flush(struct lean *k, uint32_t semaphore)
     if (semaphore >= k->semaphores_made)
         return CUNGKALISA_NO_SUCH;
     struct lean_semaphore *s = &k->semaphores[semaphore];
-    uint32_t woken = 0;
     while (!is_alone(&s->waiters)) {
         struct lean_task *t = task_at(s->waiters.next);
         end_wait(t, CUNGKALISA_FLUSHED);
-        woken |= 1u << t->id;
+        ready_at_tail(k, t);
     }
-    all_ready(k, woken);
     dispatch(k);
     return CUNGKALISA_DONE;
 }
@@ -537,22 +535,25 @@ static uint64_t free_again(struct lean *k)
     return CUNGKALISA_DONE;
 }
 
-/* All waits end before any task becomes ready: those whose level changed go first, then the woken ones. */
+/* All waits end before any task becomes ready: those whose level changed go first, then the woken ones, oldest wait first, as they
+ * stand among those whose time is up. */
 static uint64_t tick(struct lean *k)
 {
-    uint32_t moved = 0, woken = 0;
+    struct lean_task *woken[CUNGKALISA_TASKS];
+    uint32_t moved = 0, n = 0;
     k->clock++;
     while (!is_alone(&k->timed) && timed_at(k->timed.next)->due == k->clock) {
         struct lean_task *t = timed_at(k->timed.next);
         struct lean_owned *behind = t->behind;
         end_wait(t, t->late);
-        woken |= 1u << t->id;
+        woken[n++] = t;
         moved |= lower(k, behind, t->level);
     }
-    if (!woken)
+    if (!n)
         return CUNGKALISA_DONE;
     all_ready(k, moved);
-    all_ready(k, woken);
+    for (uint32_t i = 0; i < n; i++)
+        ready_at_tail(k, woken[i]);
     dispatch(k);
     return CUNGKALISA_DONE;
 }

@@ -58,7 +58,7 @@ struct lean {
     struct lean_link ready[LEAN_LEVELS];
     uint32_t marks; /* bit l: the ready list of level l isn't empty */
     uint32_t clock;
-    struct lean_link timed; /* the wait that ends next first */
+    struct lean_link timed; /* the wait that ends next first, and of those that end together the oldest */
     struct lean_task *running;
     uint8_t started;
     uint8_t hold;

@@ -272,7 +272,8 @@ impl State {
     }
 
     /// Makes a step that isn't refused, levels and orders still as before it.
-    /// Tasks that become ready by it are put into `woken`. Gives number and value.
+    /// Tasks that become ready by it are put into `woken`, oldest wait first. Gives
+    /// number and value.
     fn make(&mut self, s: Step, woken: &mut Vec<usize>) -> (u32, u32) {
         use Step::*;
         match s {
@@ -493,9 +494,9 @@ impl State {
     }
 
     /// "levels are as defined; ready tasks whose level changed go, by ascending
-    /// id, to the tail of their new level; newly ready tasks go, by ascending id,
-    /// to the tail of theirs."
-    fn settle(&mut self, mut woken: Vec<usize>) {
+    /// id, to the tail of their new level; newly ready tasks go [..] to the tail of
+    /// theirs": not by id, but "in the order in which their waits began" (K3).
+    fn settle(&mut self, woken: Vec<usize>) {
         let levels = self.levels();
         let is_changed = |&i: &usize| self.tasks[i].level != levels[i];
         let (mut changed, rest): (Vec<usize>, Vec<usize>) =
@@ -505,7 +506,6 @@ impl State {
             task.level = level;
         }
         changed.sort();
-        woken.sort();
         for i in changed.into_iter().chain(woken) {
             // Before the first that is less urgent: the tail of its level.
             let level = self.tasks[i].level;

@@ -6,6 +6,7 @@ pub mod Table
 pub mod TestLaws
 pub mod CountLaws
 pub mod OrderLaws
+pub mod BeforeLaws
 pub mod TableLaws
 pub mod FirstLaws
 pub mod FillLaws

@@ -6,7 +6,7 @@ use mathlib.Core.Option.{Option, none, some}
 use Prim.Native.Nat.{ℕ, zero, suc, _≤_, _<_}
 use lib.Dec.{ltb, leb, eqb}
 use Rattle.lists.specs.Test.{_and_, _or_}
-use Rattle.lists.specs.Count.{occ}
+use Rattle.lists.specs.Count.{occ, member}
 
 -- what passes the test, in its order
 unfoldable pub keep : (ℕ → Bool) → List ℕ → List ℕ
@@ -94,6 +94,10 @@ leastFirst f (x ∷ l) = some (leastOf f x l)
 unfoldable pub before : ℕ → List ℕ → List ℕ
 before x [] = []
 before x (y ∷ l) = cond (eqb y x) [] (y ∷ before x l)
+
+-- x stands before y. Where x doesn't stand in the list that is false, and where y doesn't it asks for x alone
+abbrev pub standsBefore : ℕ → ℕ → List ℕ → Bool
+standsBefore x y l = member x (before y l)
 
 -- every number of the list is below n
 unfoldable pub inside : ℕ → List ℕ → Bool

@@ -8,8 +8,8 @@ use Prim.Native.Nat.{ℕ, zero, suc, _+_, _≤_, _<_}
 use native.Mathlib.Omega.{arith}
 use native.Mathlib.Decide.{ℕ-discrete, decLt}
 use lib.Dec.{ltb, eqb}
-use lib.ListN.{length, getD}
-use lib.Seq.{append-snoc}
+use lib.ListN.{length, getD, take, length-append}
+use lib.Seq.{append-snoc, take-all, take-append-le}
 use borrow.Author.Tests.{ltb-true, ltb-false, leb-true, leb-false, eqb-true, eqb-false, not-true, lt-ltb, le-ltb, le-leb, eq-eqb, ne-eqb}
 use Rattle.lists.specs.Test.{_and_, allb}
 use Rattle.lists.specs.Count.{eqn, occ, member, below}
@@ -55,7 +55,7 @@ unfolding insertAll
 asc-insertAll f [] l a = a
 asc-insertAll f (x ∷ xs) l a = asc-insertAll f xs (insertTail f x l) (asc-insertTail f x l a)
 
-occ-insertAll : (f : ℕ → ℕ) (y : ℕ) (xs l : List ℕ) → occ y (insertAll f xs l) ≡ occ y xs + occ y l
+pub occ-insertAll : (f : ℕ → ℕ) (y : ℕ) (xs l : List ℕ) → occ y (insertAll f xs l) ≡ occ y xs + occ y l
 unfolding insertAll insertTail occ
 occ-insertAll f y [] l = omega arith
 occ-insertAll f y (x ∷ xs) l = omega (arith, occ-insertAll f y xs (insertTail f x l), occ-place (λ z. ltb (f x) (f z)) x y l)
@@ -95,11 +95,6 @@ unfolding insertAll
 insertAll-append f [] ys l = refl
 insertAll-append f (x ∷ xs) ys l = insertAll-append f xs ys (insertTail f x l)
 
--- one more behind
-pub stable-snoc : (f : ℕ → ℕ) (l : List ℕ) (x : ℕ) → stable f (l ++ (x ∷ [])) ≡ insertTail f x (stable f l)
-unfolding stable insertAll
-stable-snoc f l x = insertAll-append f l (x ∷ []) []
-
 -- what a test keeps of a list
 pub occ-kept : (p : ℕ → Bool) (y : ℕ) (l : List ℕ) → p y ≡ true → occ y (keep p l) ≡ occ y l
 unfolding occ keep
@@ -127,6 +122,16 @@ unfolding keep occ
 keep-none p [] h = refl
 keep-none p (x ∷ l) h = rw (h x (occ-head x l)) (keep-none p l (λ y m. h y (omega arith)))
 
+-- the one that stands there once
+pub keep-one : (x : ℕ) (l : List ℕ) → occ x l ≡ 1 → keep (eqb x) l ≡ x ∷ []
+unfolding keep occ
+keep-one x [] h = absurd (omega arith)
+keep-one x (z ∷ l) h = elim (ℕ-discrete x z) [
+  | yes e ↦ (let gone : occ x l ≡ 0 = omega (arith, eqn-at z x (sym e)) in
+      rw (eq-eqb x z e, keep-none (eqb x) l (λ y m. ne-eqb x y (λ q. omega (arith, gone, ap (λ k. occ k l) q)))) (ap (λ k. k ∷ []) (sym e)))
+  | no e ↦ rw (ne-eqb x z e) (keep-one x l (omega (arith, eqn-other z x (λ q. e (sym q)))))
+]
+
 pub keep-append : (p : ℕ → Bool) (s t : List ℕ) → keep p (s ++ t) ≡ keep p s ++ keep p t
 unfolding keep
 keep-append p [] t = refl
@@ -137,12 +142,18 @@ unfolding range occ
 occ-range i zero = omega (arith, below-out i 0 (omega arith))
 occ-range i (suc n) = omega (arith, occ-append i (range n) (n ∷ []), occ-range i n, below-suc i n)
 
--- the members of l by number
-pub occ-byId : (i n : ℕ) (l : List ℕ) → occ i l ≤ below i n → occ i (byId n (λ j. member j l)) ≡ occ i l
-unfolding byId
-occ-byId i n l h = elim (which (member i l)) [
-  | inl e ↦ omega (arith, occ-kept (λ j. member j l) i (range n) e, occ-range i n, ltb-true 0 (occ i l) e, below-le i n)
-  | inr e ↦ omega (arith, occ-dropped (λ j. member j l) i (range n) e, ltb-false 0 (occ i l) e)
+length-range : (n : ℕ) → length (range n) ≡ n
+unfolding range
+length-range zero = refl
+length-range (suc n) = omega (arith, length-append (range n) (n ∷ []), length-range n)
+
+-- the first n of the numbers below m
+pub take-range : (m n : ℕ) → n ≤ m → take n (range m) ≡ range n
+unfolding range
+take-range zero n h = let e : n ≡ 0 = omega arith in rw e refl
+take-range (suc m) n h = elim (ℕ-discrete n (suc m)) [
+  | yes e ↦ rw e (take-all (suc m) (range m ++ (m ∷ [])) (omega (arith, length-append (range m) (m ∷ []), length-range m)))
+  | no e ↦ take-append-le n (range m) (m ∷ []) (omega (arith, length-range m)) ∙ take-range m n (omega arith)
 ]
 
 -- those of l that pass stay, and the others by number
@@ -305,15 +316,6 @@ byId-ext n p q h = keep-ext p q (range n) (λ y m. h y (in-below y n (omega (ari
 pub byId-none : (n : ℕ) (p : ℕ → Bool) → ((i : ℕ) → p i ≡ false) → byId n p ≡ []
 unfolding byId
 byId-none n p h = keep-none p (range n) (λ y m. h y)
-
--- r alone, where no other number passes
-pub byId-one : (n r : ℕ) (p : ℕ → Bool) → r < n → p r ≡ true → ((y : ℕ) → (y ≡ r → ⊥) → p y ≡ false) → byId n p ≡ r ∷ []
-unfolding byId keep range
-byId-one zero r p h passes others = absurd (omega arith)
-byId-one (suc n) r p h passes others = elim (ℕ-discrete r n) [
-  | yes e ↦ keep-append p (range n) (n ∷ []) ∙ rw (keep-none p (range n) (λ y m. others y (λ q. omega (arith, occ-range y n, below-out y n (omega arith)))), ← e, passes) refl
-  | no q ↦ keep-append p (range n) (n ∷ []) ∙ rw (byId-one n r p (omega arith) passes others, others n (λ e. q (sym e))) refl
-]
 
 -- what is kept was there, and passes
 pub keep-in : (p : ℕ → Bool) (y : ℕ) (l : List ℕ) → 1 ≤ occ y (keep p l) → (p y ≡ true) × (1 ≤ occ y l)

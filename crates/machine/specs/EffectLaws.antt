@@ -9,14 +9,13 @@ use native.Mathlib.Omega.{arith}
 use native.Mathlib.Decide.{decLt}
 use lib.Dec.{eqb}
 use lib.ListN.{length, getD, set, List·getD-eq-default, List·getD-map, length-map}
-use borrow.Author.Tests.{lt-ltb, le-ltb}
+use borrow.Author.Tests.{lt-ltb}
 use Rattle.lists.specs.Test.{someb}
-use Rattle.lists.specs.Count.{occ, member, opt}
+use Rattle.lists.specs.Count.{occ, opt}
 use Rattle.lists.specs.Order.{keep}
 use Rattle.lists.specs.Table.{pad}
 use Rattle.lists.specs.TestLaws.{which, by-test}
 use Rattle.lists.specs.CountLaws.{in-below, below-le, pigeonhole}
-use Rattle.lists.specs.OrderLaws.{occ-kept, occ-dropped}
 use Rattle.lists.specs.TableLaws.{length-edit, getD-edit, pad-set, getD-pad}
 use Rattle.rules.specs.Sizes.{taskPlaces, forever, pending, onTime}
 use Rattle.rules.specs.Step.{level, outcome}
@@ -47,15 +46,12 @@ columns t d o w b m = record { due = d; priority = t .priority; level = t .level
 same-columns : (t : Tasks) {d d′ o o′ w w′ b b′ m m′ : List ℕ} → d ≡ d′ → o ≡ o′ → w ≡ w′ → b ≡ b′ → m ≡ m′ → columns t d o w b m ≡ columns t d′ o′ w′ b′ m′
 same-columns t e f g h k = rw (e, f, g, h, k) refl
 
+-- the flagged ones of the waiting order are who becomes ready, in that order
+pub flagged-ended : (t : Tables) (p : ℕ → Bool) (flags : List ℕ) → Flags flags p → keep (λ i. eqb (keyOf flags i) 1) (t .tasks .waiting) ≡ ended t p
+flagged-ended t p flags fl = ap (λ (q : ℕ → Bool). keep q (t .tasks .waiting)) (fun-ext (flag-one flags p fl))
+
 -- the waits of those who pass the test end
 module _ (t : Tables) (F : Facts t) (p : ℕ → Bool) (named : (i : ℕ) → p i ≡ true → waitCount (waitOf t i) ≡ 1) where
-  -- who becomes ready is who passes
-  pub member-ended : (i : ℕ) → member i (ended t p) ≡ p i
-  member-ended i = elim (which (p i)) [
-    | inl e ↦ rw e (lt-ltb 0 (occ i (ended t p)) (omega (arith, occ-kept p i (t .tasks .waiting) e, F .waiting i, named i e)))
-    | inr e ↦ rw e (le-ltb 0 (occ i (ended t p)) (omega (arith, occ-dropped p i (t .tasks .waiting) e)))
-  ]
-
   module _ (flags : List ℕ) (fl : Flags flags p) where
     -- the order of the waits
     pub kept-ended : kept (taskListOf (t .tasks .waiting)) flags 0 ≡ taskListOf (keep (λ i. not (p i)) (t .tasks .waiting))

@@ -8,20 +8,21 @@ use native.Mathlib.Omega.{arith}
 use lib.Dec.{ltb, eqb}
 use borrow.Author.Tests.{ltb-true, eqb-true}
 use Rattle.lists.specs.Test.{_and_}
-use Rattle.lists.specs.Count.{occ, member}
-use Rattle.lists.specs.Order.{Asc}
+use Rattle.lists.specs.Count.{occ}
+use Rattle.lists.specs.Order.{keep, Asc}
 use Rattle.lists.specs.TestLaws.{by-test, and-l, and-r, none-some}
 use Rattle.lists.specs.CountLaws.{occ-head}
 use Rattle.rules.specs.Levels.{levelIn}
 use Rattle.rules.specs.Settle.{settledReady, settle, meet, dispatch}
 use Rattle.rules.specs.Invariant.{Facts, Places, Runs, Urgent, Started, Inv}
 use Rattle.rules.specs.SettleLaws.{asc-settled, occ-settled, settled-same}
-use Rattle.task_lists.specs.TaskList.{keyOf}
+use Rattle.task_lists.specs.TaskList.{taskListOf, keyOf}
 use Rattle.record.specs.Record.{pack}
-use Rattle.machine.specs.Machine.{settled, dispatched, lined}
+use Rattle.machine.specs.Machine.{settled, dispatched, entered, allEntered}
 use Rattle.record.specs.PackLaws.{levelColumn, packWith}
-use Rattle.machine.specs.StageLaws.{unchanged-pack, settle-pack, lined-pack}
+use Rattle.machine.specs.StageLaws.{unchanged-pack, settle-pack, all-entered, one-entered}
 use Rattle.machine.specs.DispatchLaws.{dispatch-pack}
+use Rattle.record.specs.declared.State.{State}  -- keep
 use Rattle.rules.specs.State.{State as Model, levelOf, placed, withTables, withClock, withHold}  -- keep
 use Rattle.rules.specs.Tables.{Tables, taskCount}  -- keep
 
@@ -58,20 +59,25 @@ module _ (o : List ℕ) (s : Model) (I : Inv s) where
       )
 
   -- after settling, who may run is chosen
-  module _ (e : Model) (woken : List ℕ) (F : Facts (e .tables)) (n : taskCount (e .tables) ≡ taskCount (s .tables)) (P : Places e woken) where
+  module _ (e : Model) (woken : List ℕ) (F : Facts (e .tables)) (P : Places e woken) where
     chosen-pack : dispatched (pack o (settle (levelOf s) e woken)) ≡ pack o (dispatch (settle (levelOf s) e woken))
     unfolding occ
     chosen-pack = dispatch-pack o (settle (levelOf s) e woken) F
-        (λ i. omega (arith, P i, occ-settled (taskCount (e .tables)) (levelOf s) (levelOf e) (e .ready) woken i (omega (arith, P i)) (omega (arith, P i))))
+        (λ i. omega (arith, P i, occ-settled (taskCount (e .tables)) (levelOf s) (levelOf e) (e .ready) woken i (omega (arith, P i))))
         (asc-settled (taskCount (e .tables)) (levelOf s) (levelOf e) (e .ready) woken)
 
-    module _ (a : Asc (levelOf s) (e .ready)) (flags : List ℕ) (f : (i : ℕ) → eqb (keyOf flags i) 1 ≡ member i woken) where
-      pub settled-finish : dispatched (settled (packWith o (levelColumn (s .tables)) e) flags) ≡ pack o (dispatch (settle (levelOf s) e woken))
-      settled-finish = ap dispatched (settle-pack o s e woken flags F n P a f) ∙ chosen-pack
+    -- k is packed and settled, and those that became ready enter it
+    module _ (k : State) (base : k ≡ pack o (settle (levelOf s) e [])) where
+      pub all-finish : (order flags : List ℕ) → keep (λ i. eqb (keyOf flags i) 1) order ≡ woken → dispatched (allEntered k (taskListOf order) flags) ≡ pack o (dispatch (settle (levelOf s) e woken))
+      all-finish order flags f = ap (λ z. dispatched (allEntered z (taskListOf order) flags)) base ∙ ap dispatched (all-entered o s e woken F P order flags f) ∙ chosen-pack
 
-      pub lined-finish : ((i : ℕ) → levelIn (e .tables) i ≡ levelOf s i) → dispatched (lined (packWith o (levelColumn (s .tables)) e) flags) ≡ pack o (dispatch (settle (levelOf s) e woken))
-      lined-finish same = ap dispatched (lined-pack o s e woken flags F n P a f (λ i h. same i)) ∙ chosen-pack
+      pub one-finish : (w : ℕ) → woken ≡ w ∷ [] → dispatched (entered k w) ≡ pack o (dispatch (settle (levelOf s) e woken))
+      one-finish w f = ap (λ z. dispatched (entered z w)) base ∙ ap dispatched (one-entered o s e woken F P w f) ∙ chosen-pack
+
+  pub settled-finish : (e : Model) → Facts (e .tables) → taskCount (e .tables) ≡ taskCount (s .tables) → Places e [] → Asc (levelOf s) (e .ready)
+      → dispatched (settled (packWith o (levelColumn (s .tables)) e)) ≡ pack o (dispatch (settle (levelOf s) e []))
+  settled-finish e F n P a = ap dispatched (settle-pack o s e F n (λ i. omega (arith, P i)) a) ∙ chosen-pack e [] F P
 
   pub unchanged-finish : (e : Model) → Facts (e .tables) → taskCount (e .tables) ≡ taskCount (s .tables) → Places e [] → Asc (levelOf s) (e .ready)
       → ((i : ℕ) → levelIn (e .tables) i ≡ levelOf s i) → dispatched (packWith o (levelColumn (s .tables)) e) ≡ pack o (dispatch (settle (levelOf s) e []))
-  unchanged-finish e F n P a same = ap dispatched (unchanged-pack o s e n a (λ i h. same i)) ∙ chosen-pack e [] F n P
+  unchanged-finish e F n P a same = ap dispatched (unchanged-pack o s e n a (λ i h. same i)) ∙ chosen-pack e [] F P

@@ -1,23 +1,22 @@
 -- Flags that name tasks, and columns changed where a flag is set.
 use mathlib.Core.Path.{_≡_, refl, ap, sym, _∙_}
-use mathlib.Core.List.{List, [], _∷_}
+use mathlib.Core.List.{List}
 use mathlib.Core.Bool.{Bool, false, cond, not}
-use Prim.Native.Nat.{ℕ, zero, suc, _+_, _≤_, _<_}
+use Prim.Native.Nat.{ℕ, _≤_, _<_}
 use native.Mathlib.Omega.{arith}
 use native.Mathlib.Decide.{ℕ-discrete, decLt}
 use lib.Dec.{eqb}
 use lib.ListN.{length, getD, List·getD-eq-default, replicate}
 use lib.Seq.{getD-set-same, getD-set-other}
-use borrow.Author.Tests.{not-true, not-false, lt-ltb, le-ltb, eq-eqb, ne-eqb}
-use Rattle.lists.specs.Count.{eqn, occ, member}
+use borrow.Author.Tests.{not-true, not-false, lt-ltb}
+use Rattle.lists.specs.Count.{eqn}
 use Rattle.lists.specs.Table.{pad}
 use Rattle.lists.specs.TestLaws.{by-test, all-true}
 use Rattle.lists.specs.CountLaws.{eqn-at, eqn-other}
 use Rattle.lists.specs.TableLaws.{getD-fill, filled-is, length-pad, getD-pad}
 use Rattle.rules.specs.Sizes.{taskPlaces}
-use Rattle.task_lists.specs.TaskList.{keyOf, inserted, insertedFlagged}
+use Rattle.task_lists.specs.TaskList.{keyOf}
 use Rattle.machine.specs.Machine.{flaggedAt, putFlagged, single, anyFlag}
-use Rattle.task_lists.specs.declared.TaskList.{TaskList}  -- keep
 
 -- flags name who passes the test
 abbrev pub Flags : List ℕ → (ℕ → Bool) → Type 0
@@ -48,28 +47,6 @@ single-at x y h = rw (lt-ltb x taskPlaces h) (elim (ℕ-discrete x y) [
 pub single-flags : (w : ℕ) → w < taskPlaces → Flags (single w) (eqb w)
 unfolding eqn
 single-flags w h i = single-at w i h
-
-pub member-one : (r i : ℕ) → member i (r ∷ []) ≡ eqb r i
-unfolding occ
-member-one r i = elim (ℕ-discrete r i) [
-  | yes e ↦ rw (eq-eqb r i e) (lt-ltb 0 (eqn r i + 0) (omega (arith, eqn-at r i e)))
-  | no n ↦ rw (ne-eqb r i n) (le-ltb 0 (eqn r i + 0) (omega (arith, eqn-other r i n)))
-]
-
--- who goes into a list where one task has a flag
-module _ (q : TaskList) (keys flags : List ℕ) where
-  flagged-none : (n : ℕ) → ((i : ℕ) → i < n → eqb (keyOf flags i) 1 ≡ false) → insertedFlagged q keys flags n ≡ q
-  unfolding insertedFlagged
-  flagged-none zero h = refl
-  flagged-none (suc n) h = rw (h n (omega arith)) (flagged-none n (λ i k. h i (omega arith)))
-
-  pub flagged-single : (r n : ℕ) → r < n → ((i : ℕ) → eqb (keyOf flags i) 1 ≡ eqb r i) → insertedFlagged q keys flags n ≡ inserted q keys (keyOf keys r + 1) r
-  unfolding insertedFlagged
-  flagged-single r zero k h = absurd (omega arith)
-  flagged-single r (suc n) k h = elim (ℕ-discrete r n) [
-    | yes e ↦ rw (h n, eq-eqb r n e, flagged-none n (λ i j. h i ∙ ne-eqb r i (λ u. omega arith)), e) refl
-    | no e ↦ rw (h n, ne-eqb r n e) (flagged-single r n (omega arith) h)
-  ]
 
 -- a whole column is the padded one that holds the same
 pub flagged-column : (flags : List ℕ) (v : ℕ → ℕ) (l k : List ℕ) → length k ≤ taskPlaces → ((i : ℕ) → cond (eqb (keyOf flags i) 1) (v i) (getD l i 0) ≡ getD k i 0) → putFlagged flags v l ≡ pad taskPlaces 0 k

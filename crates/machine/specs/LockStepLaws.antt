@@ -7,15 +7,14 @@ use mathlib.Core.Option.{Option, none, some}
 use Prim.Native.Nat.{ℕ, _<_}
 use native.Mathlib.Omega.{arith}
 use lib.Dec.{ltb, eqb}
-use lib.ListN.{length, replicate}
+use lib.ListN.{length}
 use borrow.Author.Tests.{leb-false, not-true, not-false, eq-eqb, ne-eqb}
 use Rattle.lists.specs.Test.{_and_, someb, holds}
 use Rattle.lists.specs.Count.{occ, member, opt}
 use Rattle.lists.specs.Order.{before}
 use Rattle.lists.specs.TestLaws.{which, clash, by-test, none-some}
 use Rattle.lists.specs.CountLaws.{occ-append}
-use Rattle.lists.specs.TableLaws.{getD-fill}
-use Rattle.rules.specs.Sizes.{taskPlaces, granted, onMutex, onTime}
+use Rattle.rules.specs.Sizes.{granted, onMutex, onTime}
 use Rattle.rules.specs.Levels.{chainOf, linksOf, closesRing, awaits, bestWaiter}
 use Rattle.rules.specs.Step.{lock, unlock}
 use Rattle.rules.specs.Effect.{give, beginWait, endWaits, ended, callerWaits, lockBy, passOn, effect}
@@ -30,17 +29,18 @@ use Rattle.machine.specs.Planned.{planFor}
 use Rattle.moves.specs.declared.Move.the-variants.{Nothing}  -- keep
 use Rattle.record.specs.Record.{kindCode, packTasks, packMutexes, packSemaphores, pack}
 use Rattle.record.specs.Reads.{ownerAt}
-use Rattle.machine.specs.Machine.{single, settled, dispatched, woke, blockedOn, ownerSet, answerIn, lockWaits, lockStep, unlockStep}
+use Rattle.machine.specs.Machine.{single, settled, dispatched, woke, entered, blockedOn, ownerSet, answerIn, lockWaits, lockStep, unlockStep}
 use Rattle.record.specs.PackLaws.{levelColumn, packWith}
 use Rattle.record.specs.ReadLaws.{owner-read}
 use Rattle.record.specs.ColumnLaws.{chosen, skipped}
-use Rattle.machine.specs.FlagLaws.{flag-one, single-flags}
+use Rattle.machine.specs.FlagLaws.{single-flags}
 use Rattle.machine.specs.WaitLaws.{best-pack, chain-pack}
-use Rattle.machine.specs.EffectLaws.{member-ended, woke-pack, blocked-pack}
+use Rattle.machine.specs.EffectLaws.{woke-pack, blocked-pack}
 use Rattle.machine.specs.ObjectLaws.{owner-set, level-same, lends-give}
 use Rattle.machine.specs.RowLaws.{still, ruled, by-rows, on-row, on-accept, called-some, id-some, running-below, on-caller}
-use Rattle.machine.specs.FinishLaws.{quiet-pack, settled-finish}
-use Rattle.machine.specs.WaitStepLaws.{may-wait, time-test, best-named, best-in, best-below}
+use Rattle.machine.specs.StageLaws.{settle-pack}
+use Rattle.machine.specs.FinishLaws.{quiet-pack, one-finish, settled-finish}
+use Rattle.machine.specs.WaitStepLaws.{may-wait, time-test, best-named, best-ended, best-in, best-below}
 use Rattle.record.specs.declared.Plan.{Plan}  -- keep
 use Rattle.record.specs.Setters.{putMutexes}  -- keep
 use Rattle.machine.specs.Machine.{passedTo}  -- keep
@@ -93,13 +93,12 @@ module _ (os : List ℕ) (s : Model) (I : Inv s) where
         (λ i e. by-test (λ (z : ℕ). z ≡ granted) (eqb (kindCode (waitOf (s .tables) i)) onTime) (λ q. refl) (λ q. refl)))
         ∙ ap (putMutexes (packWith os (levelColumn (s .tables)) (withTables s granted-to))) (owner-set (s .tables) (I .facts) m (some w) h)
 
-    passed-finish : dispatched (settled (putMutexes (woke (pack os s) (single w) granted granted) (ownerSet ((pack os s) .mutexes) m w)) (single w))
+    passed-finish : dispatched (entered (settled (putMutexes (woke (pack os s) (single w) granted granted) (ownerSet ((pack os s) .mutexes) m w))) w)
         ≡ pack os (dispatch (settle (levelOf s) (withTables s (give granted-to m (some w))) (ended (s .tables) (eqb w))))
-    passed-finish = ap (λ z. dispatched (settled z (single w))) passed-woke
-        ∙ settled-finish os s I (withTables s (give granted-to m (some w))) (ended (s .tables) (eqb w)) after-facts refl
-        (places-end s (give granted-to m (some w)) (eqb w) refl refl (I .places)) (I .ascending) (single w)
-        (λ i. flag-one (single w) (eqb w) (single-flags w (best-below os s I (mutexOf m) w best)) i
-        ∙ sym (member-ended (s .tables) (I .facts) (eqb w) (best-named os s I (mutexOf m) w best) i))
+    passed-finish = one-finish os s I (withTables s (give granted-to m (some w))) (ended (s .tables) (eqb w)) after-facts
+        (places-end s (give granted-to m (some w)) (eqb w) refl refl (I .places)) _
+        (ap settled passed-woke ∙ settle-pack os s (withTables s (give granted-to m (some w))) after-facts refl (λ i. omega (arith, I .places i)) (I .ascending))
+        w (best-ended os s I (mutexOf m) w best)
 
   pass-on : (m : ℕ) → m < mutexCount (s .tables) → (o : Option ℕ) → bestWaiter (s .tables) (mutexOf m) ≡ o → answerIn (passedTo (pack os s) m (idOf o)) 0 0 ≡ ruled (still os) s (unlock m) []
   unfolding passedTo pack effect passOn idOf
@@ -125,20 +124,19 @@ module _ (os : List ℕ) (s : Model) (I : Inv s) where
         cond (eqb t 0) (answerIn (pack os s) 3 0)
         (cond (ltb 0 ((pack os s) .hold)) (answerIn (pack os s) 11 0)
         (cond (member x chain) (answerIn (pack os s) 12 (length (before x chain)))
-        (answerIn (dispatched (settled (blockedOn (pack os s) x onMutex m t) (replicate taskPlaces 0))) 1 (length (before x chain)))))
+        (answerIn (dispatched (settled (blockedOn (pack os s) x onMutex m t))) 1 (length (before x chain)))))
 
     waits-same : lockWaits (pack os s) m t ≡ waits-by (chainOf (s .tables) (mutexOf m)) r
     unfolding lockWaits pack packTasks
     waits-same = may-wait (pack os s) t _ ∙ ap (λ c. waits-by c ((pack os s) .running)) (chain-pack os s (I .facts) m) ∙ ap (waits-by (chainOf (s .tables) (mutexOf m))) (id-some (s .running) r run)
 
     ring-finish : (o : ℕ) → ownerOf (s .tables) m ≡ some o → eqb t 0 ≡ false → closesRing (s .tables) r (mutexOf m) ≡ false
-        → dispatched (settled (blockedOn (pack os s) r onMutex m t) (replicate taskPlaces 0)) ≡ pack os (dispatch (settle (levelOf s) ((callerWaits s r (mutexOf m) t (linksOf (s .tables) r (mutexOf m))) .state) []))
+        → dispatched (settled (blockedOn (pack os s) r onMutex m t)) ≡ pack os (dispatch (settle (levelOf s) ((callerWaits s r (mutexOf m) t (linksOf (s .tables) r (mutexOf m))) .state) []))
     unfolding callerWaits awaitedKind awaitedObject occ
-    ring-finish o e now clear = ap (λ z. dispatched (settled z (replicate taskPlaces 0))) (blocked-pack os s I r run (mutexOf m) t)
-        ∙ settled-finish os s I (placed (withTables s (beginWait (s .tables) r (waitFor (mutexOf m) t))) none (s .ready)) []
+    ring-finish o e now clear = ap (λ z. dispatched (settled z)) (blocked-pack os s I r run (mutexOf m) t)
+        ∙ settled-finish os s I (placed (withTables s (beginWait (s .tables) r (waitFor (mutexOf m) t))) none (s .ready))
         (facts-begin (s .tables) r (waitFor (mutexOf m) t) (caller-in s I r run) (caller-idle s I r run) (o, e) tt (left-wait (mutexOf m) t refl valid now) clear (I .facts)) refl
         (λ i. omega (arith, I .places i, occ-append i (s .tables .tasks .waiting) (r ∷ []), ap (λ x. occ i (opt x)) run)) (I .ascending)
-        (replicate taskPlaces 0) (λ i. ap (λ x. eqb x 1) (getD-fill 0 taskPlaces i))
 
     lock-rest : (o : Option ℕ) → ownerOf (s .tables) m ≡ o
         → cond (eqb (idOf o) noId) (answerIn (putMutexes (pack os s) (ownerSet ((pack os s) .mutexes) m ((pack os s) .running))) 0 0) (lockWaits (pack os s) m t)

@@ -14,7 +14,7 @@ use Rattle.rings.specs.Ring.{slotOf}
 use Rattle.rings.specs.Starts.{startIn}
 use Rattle.rules.specs.Step.{level, outcome}
 use Rattle.rules.specs.Effect.{due}
-use Rattle.task_lists.specs.TaskList.{noId, items, taskListOf, keyOf, pushed, inserted, kept, insertedFlagged, counted, bestOf}
+use Rattle.task_lists.specs.TaskList.{noId, items, taskListOf, keyOf, pushed, inserted, kept, tailed, insertedFlagged, everyId, counted, bestOf}
 use Rattle.level_marks.specs.Marks.{marksIn, firstMarked}
 use Rattle.walks.specs.Walk.{chainFrom}
 use Rattle.record.specs.Record.{ticksLeft, dueAt}
@@ -105,24 +105,22 @@ anyFlag f = not (allb taskPlaces (λ i. not (eqb (getD f i 0) 1)))
 unfoldable pub movedOf : TaskList → List ℕ → List ℕ
 movedOf q changed = filled taskPlaces (bothFlag changed (counted (replicate taskPlaces 0) (items q)))
 
--- those whose level changed go to the tail of their new level
+-- those whose level changed go, by id, to the tail of their new level
 abbrev pub reordered : TaskList → List ℕ → List ℕ → ℕ → TaskList
-reordered q changed new n = insertedFlagged (kept q changed 0) new (movedOf q changed) n
+reordered q changed new n = insertedFlagged (kept q changed 0) new (movedOf q changed) (items (everyId n))
 
-unfoldable pub resettled : TaskList → List ℕ → List ℕ → List ℕ → ℕ → TaskList
-resettled q old new woken n =
-    let changed = filled taskPlaces (differFlag old new) in
-    cond (anyFlag changed) (insertedFlagged (reordered q changed new n) new woken n) (insertedFlagged q new woken n)
+unfoldable pub resettled : TaskList → List ℕ → List ℕ → ℕ → TaskList
+resettled q old new n = let changed = filled taskPlaces (differFlag old new) in cond (anyFlag changed) (reordered q changed new n) q
 
 -- levels as defined, and the ready order that follows them
-unfoldable pub orderOf : Tasks → Mutexes → Queues → TaskList → List ℕ → Order
-orderOf t m x ready woken = let new = newLevels t m x in record { level = new; ready = resettled ready (t .level) new woken (t .n) }
+unfoldable pub orderOf : Tasks → Mutexes → Queues → TaskList → Order
+orderOf t m x ready = let new = newLevels t m x in record { level = new; ready = resettled ready (t .level) new (t .n) }
 
 abbrev pub putOrder : State → Order → State
 putOrder k o = putReady (putTasks k (putLevel (k .tasks) (o .level))) (o .ready)
 
-unfoldable pub settled : State → List ℕ → State
-settled k woken = putOrder k (orderOf (k .tasks) (k .mutexes) (k .queues) (k .ready) woken)
+unfoldable pub settled : State → State
+settled k = putOrder k (orderOf (k .tasks) (k .mutexes) (k .queues) (k .ready))
 
 -- the list without its first
 unfoldable pub restOf : TaskList → TaskList
@@ -156,9 +154,13 @@ dispatched k = putTurn k (turnOf (k .started) (k .ready) (k .tasks .level) (k .r
 unfoldable pub woke : State → List ℕ → ℕ → ℕ → State
 woke k flags slept other = putWaiting (putTasks k (endedWhere (k .tasks) flags slept other)) (kept (k .waiting) flags 0)
 
--- they become ready, no level having changed
-unfoldable pub lined : State → List ℕ → State
-lined k flags = putReady k (insertedFlagged (k .ready) (k .tasks .level) flags (k .tasks .n))
+-- i becomes ready: it enters at the tail of its level
+unfoldable pub entered : State → ℕ → State
+entered k i = putReady k (tailed (k .ready) (k .tasks .level) i)
+
+-- those of an order that have a flag become ready, and enter in that order
+unfoldable pub allEntered : State → TaskList → List ℕ → State
+allEntered k order flags = putReady k (insertedFlagged (k .ready) (k .tasks .level) flags (items order))
 
 -- whether a wait ends at a time, and when; then r waits, and nobody runs
 unfoldable pub timedFor : ℕ → ℕ
@@ -257,7 +259,7 @@ taskStep k p =
     cond (eqb (k .started) 0)
     (cond (leb levels p) (answerIn k 7 0)
     (cond (leb maxTasks (k .tasks .n)) (answerIn k 8 0)
-    (answerIn (putReady (putTasks k (taskAdded (k .tasks) p)) (inserted (k .ready) ((taskAdded (k .tasks) p) .level) (p + 1) (k .tasks .n))) 0 (k .tasks .n))))
+    (answerIn (entered (putTasks k (taskAdded (k .tasks) p)) (k .tasks .n)) 0 (k .tasks .n))))
     (answerIn k 4 0)
 
 unfoldable pub mutexStep : State → ℕ → Plan
@@ -301,7 +303,7 @@ lockWaits k m t =
     let chain = ownersFrom (k .tasks) (k .mutexes) (k .queues) (ownerAt (k .mutexes) m) in
     mayWait k t
     (cond (member (k .running) chain) (answerIn k 12 (length (before (k .running) chain)))
-    (answerIn (dispatched (settled (blockedOn k (k .running) onMutex m t) (replicate taskPlaces 0))) 1 (length (before (k .running) chain))))
+    (answerIn (dispatched (settled (blockedOn k (k .running) onMutex m t))) 1 (length (before (k .running) chain))))
 
 abbrev pub lockOn : State → ℕ → ℕ → Plan
 lockOn k m t =
@@ -318,7 +320,7 @@ bestAt k kind object = bestOf (k .waiting) (k .tasks .wait) (k .tasks .object) (
 
 unfoldable pub passedTo : State → ℕ → ℕ → State
 passedTo k m w = cond (eqb w noId) (putMutexes k (ownerSet (k .mutexes) m noId))
-    (dispatched (settled (putMutexes (woke k (single w) granted granted) (ownerSet (k .mutexes) m w)) (single w)))
+    (dispatched (entered (settled (putMutexes (woke k (single w) granted granted) (ownerSet (k .mutexes) m w))) w))
 
 unfoldable pub unlockStep : State → ℕ → Plan
 unlockStep k m = calledBy k
@@ -341,7 +343,7 @@ creditStep k j w =
     cond (eqb w noId)
     (cond (leb (maximumAt (k .semaphores) j) (countAt (k .semaphores) j)) (answerIn k 2 0)
     (answerIn (putSemaphores k (countSet (k .semaphores) j (countAt (k .semaphores) j + 1))) 0 0))
-    (answerIn (dispatched (lined (woke k (single w) granted granted) (single w))) 0 0)
+    (answerIn (dispatched (entered (woke k (single w) granted granted) w)) 0 0)
 
 unfoldable pub postStep : State → ℕ → Plan
 postStep k j =
@@ -352,7 +354,7 @@ unfoldable pub flushStep : State → ℕ → Plan
 flushStep k j =
     let flags = filled taskPlaces (waiterFlag (k .tasks) onSemaphore j) in
     cond (eqb (k .started) 0) (answerIn k 4 0)
-    (cond (leb (k .semaphores .n) j) (answerIn k 6 0) (answerIn (dispatched (lined (woke k flags flushed flushed) flags)) 0 0))
+    (cond (leb (k .semaphores .n) j) (answerIn k 6 0) (answerIn (dispatched (allEntered (woke k flags flushed flushed) (k .waiting) flags)) 0 0))
 
 unfoldable pub sleepStep : State → ℕ → Plan
 sleepStep k t = calledBy k
@@ -363,7 +365,7 @@ sleepStep k t = calledBy k
 unfoldable pub yieldStep : State → Plan
 yieldStep k = calledBy k
     (cond (eqb (k .hold) 0)
-    (answerIn (dispatched (putRunning (putReady k (inserted (k .ready) (k .tasks .level) (keyOf (k .tasks .level) (k .running) + 1) (k .running))) noId)) 0 0)
+    (answerIn (dispatched (putRunning (entered k (k .running)) noId)) 0 0)
     (answerIn k 11 0))
 
 unfoldable pub holdStep : State → Plan
@@ -377,7 +379,7 @@ tickStep k =
     let flags = filled taskPlaces (dueFlag (k .tasks) (k .clock)) in
     cond (eqb (k .started) 0) (answerIn k 4 0)
     (cond (anyFlag flags)
-    (answerIn (dispatched (settled (putClock (woke k flags granted timedOut) (dueAt (k .clock) 1)) flags)) 0 0)
+    (answerIn (dispatched (allEntered (settled (putClock (woke k flags granted timedOut) (dueAt (k .clock) 1))) (k .waiting) flags)) 0 0)
     (answerIn (putClock k (dueAt (k .clock) 1)) 0 0))
 
 unfoldable pub levelStep : State → ℕ → Plan
@@ -406,17 +408,14 @@ ownedQueueStep k w d o space = cond (eqb (k .started) 0) (cond (leb (k .tasks .n
 
 -- levels and the ready order where tasks have begun, or ended, to wait for room in a queue of this owner: without one nothing is lent
 abbrev pub orderBehind : ℕ → Tasks → Mutexes → Queues → TaskList → Order
-orderBehind owner t m x ready = cond (eqb owner noId) (record { level = t .level; ready = ready }) (orderOf t m x ready (replicate taskPlaces 0))
-
-abbrev pub orderWith : ℕ → Tasks → Mutexes → Queues → TaskList → List ℕ → Order
-orderWith owner t m x ready woken = cond (eqb owner noId) (record { level = t .level; ready = insertedFlagged ready (t .level) woken (t .n) }) (orderOf t m x ready woken)
+orderBehind owner t m x ready = cond (eqb owner noId) (record { level = t .level; ready = ready }) (orderOf t m x ready)
 
 -- the caller waits to send: where q has an owner, its levels and those up its chain may change
 unfoldable pub sendBlocked : State → ℕ → ℕ → State
 sendBlocked k q t =
     cond (eqb (queueOwnerAt (k .queues) q) noId)
     (dispatched (blockedOn k (k .running) onSend q t))
-    (dispatched (settled (blockedOn k (k .running) onSend q t) (replicate taskPlaces 0)))
+    (dispatched (settled (blockedOn k (k .running) onSend q t)))
 
 unfoldable pub sendWaits : State → ℕ → ℕ → Plan
 sendWaits k q t =
@@ -430,7 +429,7 @@ unfoldable pub delivered : State → ℕ → ℕ → Plan
 delivered k q w =
     cond (eqb w noId)
     (answerMoving (putQueues k (usedSet (k .queues) q (usedAt (k .queues) q + 1))) 0 0 (QueueWords (placeAt (k .queues) q (usedAt (k .queues) q))))
-    (answerMoving (dispatched (lined (woke k (single w) granted granted) (single w))) 0 0 (HoldWords w))
+    (answerMoving (dispatched (entered (woke k (single w) granted granted) w)) 0 0 (HoldWords w))
 
 abbrev pub sendOn : State → ℕ → ℕ → Plan
 sendOn k q t =
@@ -447,8 +446,8 @@ sendStep k q t count = calledBy k
 unfoldable pub sentOff : State → ℕ → ℕ → State
 sentOff k q w =
     cond (eqb (queueOwnerAt (k .queues) q) noId)
-    (dispatched (lined (woke k (single w) granted granted) (single w)))
-    (dispatched (settled (woke k (single w) granted granted) (single w)))
+    (dispatched (entered (woke k (single w) granted granted) w))
+    (dispatched (entered (settled (woke k (single w) granted granted)) w))
 
 -- the caller takes the oldest message; the message of the waiting sender w goes to its place, which is the tail of a full ring
 unfoldable pub takenIn : State → ℕ → ℕ → Plan

@@ -154,7 +154,7 @@ module _ (t : Tables) (F : Facts t) (silent : (i : ℕ) → waitOf t i ≡ none)
   new-level : (i : ℕ) → i < suc (taskCount t) → levelIn (addTask t p) i ≡ priorityOf (addTask t p) i
   new-level i h = level-alone (addTask t p) new-facts (λ j. snoc-default none (t .tasks .waits) j ∙ silent j) i (omega (arith, more))
 
-  pub made-level : levelIn (addTask t p) (taskCount t) ≡ p
+  made-level : levelIn (addTask t p) (taskCount t) ≡ p
   made-level = new-level (taskCount t) (omega arith) ∙ snoc-last p 0 (t .tasks .priorities)
 
   pub old-level : (i : ℕ) → i < taskCount t → levelIn (addTask t p) i ≡ levelIn t i

@@ -12,7 +12,7 @@ use Rattle.lists.specs.Count.{occ, opt}
 use Rattle.lists.specs.Order.{insertTail}
 use Rattle.lists.specs.TestLaws.{clash, or-none}
 use Rattle.lists.specs.CountLaws.{below-le, pigeonhole}
-use Rattle.lists.specs.TableLaws.{length-snoc, getD-pad}
+use Rattle.lists.specs.TableLaws.{getD-pad}
 use Rattle.rules.specs.Sizes.{maxTasks, taskPlaces, maxMutexes, maxSemaphores, levels, kinds}
 use Rattle.rules.specs.Levels.{levelIn}
 use Rattle.rules.specs.Step.{task, mutex, sem, start, yield, hold, free, level, outcome}
@@ -20,23 +20,22 @@ use Rattle.rules.specs.Effect.{done, addTask, addMutex, addSem, yieldBy, effect
 use Rattle.rules.specs.Settle.{settledReady, settle, dispatch}
 use Rattle.rules.specs.Refusal.{refusals}
 use Rattle.rules.specs.Invariant.{Inv}
-use Rattle.rules.specs.SettleLaws.{settled-made}
+use Rattle.rules.specs.SettleLaws.{settled-one}
 use Rattle.rules.specs.WaiterLaws.{wait-none}
 use Rattle.rules.specs.CreationLaws.{facts-addMutex, facts-addSem, ready-in}
-use Rattle.rules.specs.StepLaws.{caller-in}
-use Rattle.task_lists.specs.TaskList.{noId, taskListOf, keyOf, inserted, idOf}
+use Rattle.task_lists.specs.TaskList.{noId, taskListOf, tailed, idOf}
 use Rattle.task_lists.specs.TaskListLaws.{tail-taskListOf}
 use Rattle.machine.specs.Planned.{planFor}
 use Rattle.moves.specs.declared.Move.the-variants.{Nothing}  -- keep
 use Rattle.record.specs.Record.{packTasks, packMutexes, packSemaphores, pack}
-use Rattle.machine.specs.Machine.{single, dispatched, lined, taskAdded, answerIn, taskStep, mutexStep, semStep, startStep, yieldStep, holdStep, freeStep, levelStep, outcomeStep}
+use Rattle.machine.specs.Machine.{dispatched, entered, taskAdded, answerIn, taskStep, mutexStep, semStep, startStep, yieldStep, holdStep, freeStep, levelStep, outcomeStep}
 use Rattle.record.specs.PackLaws.{levelColumn, packWith}
 use Rattle.record.specs.ReadLaws.{key-levels, level-read}
 use Rattle.record.specs.ColumnLaws.{chosen, skipped}
-use Rattle.machine.specs.FlagLaws.{flag-one, single-flags, member-one, flagged-single}
-use Rattle.machine.specs.ObjectLaws.{mutex-added, sem-added, level-same, lends-none, made-level, old-level, task-added}
-use Rattle.machine.specs.RowLaws.{still, by-rows, on-row, on-accept, held-on, held-off, either, called-some, id-some, running-below, on-caller, on-set-up}
-use Rattle.machine.specs.FinishLaws.{dispatch-still, quiet-pack, lined-finish, unchanged-finish}
+use Rattle.machine.specs.StageLaws.{unchanged-pack}
+use Rattle.machine.specs.ObjectLaws.{mutex-added, sem-added, level-same, lends-none, old-level, task-added}
+use Rattle.machine.specs.RowLaws.{still, by-rows, on-row, on-accept, held-on, held-off, either, called-some, id-some, on-caller, on-set-up}
+use Rattle.machine.specs.FinishLaws.{dispatch-still, quiet-pack, one-finish, unchanged-finish}
 use Rattle.record.specs.Setters.{putReady, putRunning, putMutexes, putSemaphores, putTasks}  -- keep
 use Rattle.rules.specs.State.{State as Model, levelOf, placed, withTables}  -- keep
 use Rattle.rules.specs.State.{withHold, withStarted}  -- keep
@@ -79,15 +78,12 @@ module _ (os : List ℕ) (s : Model) (I : Inv s) where
 
   -- the caller goes to the tail of its level
   yield-ready : (r : ℕ) → s .running ≡ some r
-      → dispatched (putRunning (putReady (pack os s) (inserted ((pack os s) .ready) ((pack os s) .tasks .level) (keyOf ((pack os s) .tasks .level) ((pack os s) .running) + 1) ((pack os s) .running))) noId)
-      ≡ pack os (dispatch (settle (levelOf s) (placed s none (s .ready)) (r ∷ [])))
-  unfolding pack packTasks packWith levelColumn lined occ idOf
+      → dispatched (putRunning (entered (pack os s) ((pack os s) .running)) noId) ≡ pack os (dispatch (settle (levelOf s) (placed s none (s .ready)) (r ∷ [])))
+  unfolding pack packTasks packWith levelColumn entered occ idOf
   yield-ready r run =
-      ap (λ x. dispatched (putRunning (putReady (pack os s) (inserted ((pack os s) .ready) ((pack os s) .tasks .level) (keyOf ((pack os s) .tasks .level) x + 1) x)) noId)) (id-some (s .running) r run)
-      ∙ ap (λ q. dispatched (putRunning (putReady (pack os s) q) noId))
-      (sym (flagged-single ((pack os s) .ready) ((pack os s) .tasks .level) (single r) r (taskCount (s .tables)) (caller-in s I r run) (flag-one (single r) (eqb r) (single-flags r (running-below os s I r run)))))
-      ∙ lined-finish os s I (placed s none (s .ready)) (r ∷ []) (I .facts) refl (λ i. omega (arith, I .places i, ap (λ o. occ i (opt o)) run)) (I .ascending)
-      (single r) (λ i. flag-one (single r) (eqb r) (single-flags r (running-below os s I r run)) i ∙ sym (member-one r i)) (λ i. refl)
+      ap (λ x. dispatched (putRunning (entered (pack os s) x) noId)) (id-some (s .running) r run)
+      ∙ one-finish os s I (placed s none (s .ready)) (r ∷ []) (I .facts) (λ i. omega (arith, I .places i, ap (λ o. occ i (opt o)) run))
+      (pack os (placed s none (s .ready))) (unchanged-pack os s (placed s none (s .ready)) refl (I .ascending) (λ i h. refl)) r refl
 
   pub yield-pack : yieldStep (pack os s) ≡ planFor os Nothing (stepSound s yield)
   unfolding yieldStep pack packTasks refusals effect yieldBy
@@ -133,26 +129,21 @@ module _ (os : List ℕ) (s : Model) (I : Inv s) where
     ready-short = pigeonhole (taskCount (s .tables)) (s .ready) (λ y. omega (arith, I .places y, below-le y (taskCount (s .tables)))) (ready-in s I)
 
     order : settledReady (taskCount grown) (levelOf s) (levelIn grown) (s .ready) (taskCount (s .tables) ∷ []) ≡ insertTail (levelIn grown) (taskCount (s .tables)) (s .ready)
-    order = ap (λ k. settledReady k (levelOf s) (levelIn grown) (s .ready) (taskCount (s .tables) ∷ [])) (length-snoc (s .tables .tasks .priorities) p)
-        ∙ settled-made (taskCount (s .tables)) (levelOf s) (levelIn grown) (s .ready)
+    order = settled-one (taskCount grown) (taskCount (s .tables)) (levelOf s) (levelIn grown) (s .ready)
         (λ i m. old-level (s .tables) (I .facts) (silent off) p low room i (ready-in s I i m)) (I .ascending)
 
-    lined-up : inserted (taskListOf (s .ready)) ((packTasks grown (s .clock)) .level) (p + 1) (taskCount (s .tables))
+    last : tailed (taskListOf (s .ready)) ((packTasks grown (s .clock)) .level) (taskCount (s .tables))
         ≡ taskListOf (settledReady (taskCount grown) (levelOf s) (levelIn grown) (s .ready) (taskCount (s .tables) ∷ []))
     unfolding packTasks levelColumn
-    lined-up =
-        ap (λ x. inserted (taskListOf (s .ready)) ((packTasks grown (s .clock)) .level) (x + 1) (taskCount (s .tables)))
-        (sym (level-read grown (s .clock) (taskCount (s .tables)) ∙ made-level (s .tables) (I .facts) (silent off) p low room))
-        ∙ tail-taskListOf ((packTasks grown (s .clock)) .level) (taskCount (s .tables)) (s .ready) (omega (arith, ready-short))
+    last = tail-taskListOf ((packTasks grown (s .clock)) .level) (taskCount (s .tables)) (s .ready) (omega (arith, ready-short))
         ∙ ap (λ (f : ℕ → ℕ). taskListOf (insertTail f (taskCount (s .tables)) (s .ready))) (key-levels grown) ∙ ap taskListOf (sym order)
 
-    made-pack : putReady (putTasks (pack os s) (taskAdded ((pack os s) .tasks) p)) (inserted ((pack os s) .ready) ((taskAdded ((pack os s) .tasks) p) .level) (p + 1) ((pack os s) .tasks .n))
-        ≡ pack os (dispatch (settle (levelOf s) (withTables s grown) (taskCount (s .tables) ∷ [])))
-    unfolding pack packMutexes packSemaphores packTasks
+    made-pack : entered (putTasks (pack os s) (taskAdded ((pack os s) .tasks) p)) ((pack os s) .tasks .n) ≡ pack os (dispatch (settle (levelOf s) (withTables s grown) (taskCount (s .tables) ∷ [])))
+    unfolding entered pack packMutexes packSemaphores packTasks
     made-pack =
-        ap (λ z. putReady (putTasks (pack os s) z) (inserted (taskListOf (s .ready)) (z .level) (p + 1) (taskCount (s .tables))))
+        ap (λ z. putReady (putTasks (pack os s) z) (tailed (taskListOf (s .ready)) (z .level) (taskCount (s .tables))))
         (task-added (s .tables) (I .facts) (silent off) p low room (s .clock))
-        ∙ ap (λ q. putReady (putTasks (pack os s) (packTasks grown (s .clock))) q) lined-up
+        ∙ ap (λ q. putReady (putTasks (pack os s) (packTasks grown (s .clock))) q) last
         ∙ ap (pack os) (sym (dispatch-still (settle (levelOf s) (withTables s grown) (taskCount (s .tables) ∷ [])) (λ e. absurd (clash e off))))
 
   pub task-pack : (p : ℕ) → taskStep (pack os s) p ≡ planFor os Nothing (stepSound s (task p))

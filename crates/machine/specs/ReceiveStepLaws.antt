@@ -9,7 +9,6 @@ use lib.Dec.{eqb}
 use lib.ListN.{length, getD, set}
 use borrow.Author.Tests.{leb-false, not-true, not-false, eqb-true, eq-eqb, ne-eqb}
 use Rattle.lists.specs.Test.{_and_, _or_, someb}
-use Rattle.lists.specs.Count.{member}
 use Rattle.lists.specs.TestLaws.{clash, by-test, and-l, and-r, and-false}
 use Rattle.lists.specs.TableLaws.{length-snoc}
 use Rattle.rules.specs.Sizes.{granted, onTime}
@@ -24,23 +23,24 @@ use Rattle.rules.specs.Invariant.{Facts, Inv}
 use Rattle.rules.specs.MessageLaws.{took-facts, swapped-facts}
 use Rattle.rules.specs.WaiterLaws.{places-end, awaits-lends, best-waits}
 use Rattle.rules.specs.StepLaws.{left-wait, caller-in, caller-idle, may-receive}
-use Rattle.task_lists.specs.TaskList.{noId, keyOf, idOf}
+use Rattle.task_lists.specs.TaskList.{noId, idOf}
 use Rattle.rings.specs.Ring.{slotOf, spot}
 use Rattle.record.specs.Record.{kindCode, packTasks, packMutexes, packSemaphores, packQueues, pack}
 use Rattle.record.specs.Layout.{ringOf}
 use Rattle.record.specs.Reads.{queueOwnerAt}
-use Rattle.machine.specs.Machine.{single, settled, dispatched, woke, lined, usedSet, oldestSet, widthAt, usedAt, placeAt, nextOldest, answerMoving, sentOff, takenIn, receiveOn, mayTake, receiveStep}
+use Rattle.machine.specs.Machine.{single, settled, dispatched, woke, entered, usedSet, oldestSet, widthAt, usedAt, placeAt, nextOldest, answerMoving, sentOff, takenIn, receiveOn, mayTake, receiveStep}
 use Rattle.record.specs.PackLaws.{levelColumn, packWith}
 use Rattle.record.specs.ReadLaws.{queue-owner-read, width-read, used-read}
 use Rattle.record.specs.ColumnLaws.{chosen, skipped}
-use Rattle.machine.specs.FlagLaws.{flag-one, single-flags}
+use Rattle.machine.specs.FlagLaws.{single-flags}
 use Rattle.machine.specs.WaitLaws.{best-pack}
-use Rattle.machine.specs.EffectLaws.{member-ended, woke-pack}
+use Rattle.machine.specs.EffectLaws.{woke-pack}
 use Rattle.machine.specs.ObjectLaws.{level-same, lends-end, lends-messages, lends-hands}
 use Rattle.machine.specs.QueueObjectLaws.{place-packed, next-packed, used-set, used-same, oldest-set}
 use Rattle.machine.specs.RowLaws.{Course, still, ruled, on-row, on-accept, called-some, on-caller}
-use Rattle.machine.specs.FinishLaws.{quiet-pack, settled-finish, lined-finish}
-use Rattle.machine.specs.WaitStepLaws.{may-wait, time-test, wait-finish, best-named, best-below}
+use Rattle.machine.specs.StageLaws.{unchanged-pack, settle-pack}
+use Rattle.machine.specs.FinishLaws.{quiet-pack, one-finish}
+use Rattle.machine.specs.WaitStepLaws.{may-wait, time-test, wait-finish, best-named, best-ended, best-below}
 use Rattle.machine.specs.SendStepLaws.{going, queue-owner-at, owns-queue-test, unowned-test}
 use Rattle.moves.specs.declared.Move.{Move}  -- keep
 use Rattle.moves.specs.declared.Move.the-variants.{Nothing, Take, Swap}  -- keep
@@ -160,25 +160,23 @@ module _ (os : List ℕ) (s : Model) (I : Inv s) where
           F : Facts ready
           F = swapped-facts (s .tables) (I .facts) q low m ms e r (caller-in s I r run) (caller-idle s I r run) w best
 
-          flagged : (i : ℕ) → eqb (keyOf (single w) i) 1 ≡ member i (ended (s .tables) (eqb w))
-          flagged i = flag-one (single w) (eqb w) (single-flags w (best-below os s I (roomIn q) w best)) i ∙ sym (member-ended (s .tables) (I .facts) (eqb w) (best-named os s I (roomIn q) w best) i)
+          enters : (k : State) → k ≡ pack (set os q turn) (settle (levelOf s) (withTables s ready) []) → dispatched (entered k w) ≡ pack (set os q turn) (dispatch (settle (levelOf s) (withTables s ready) (ended (s .tables) (eqb w))))
+          enters k f = one-finish (set os q turn) s I (withTables s ready) (ended (s .tables) (eqb w)) F (places-end s ready (eqb w) refl refl (I .places)) k f w (best-ended os s I (roomIn q) w best)
 
           off-finish : (o : Option ℕ) → queueOwnerOf (s .tables) q ≡ o → (k : State) → k ≡ packWith (set os q turn) (levelColumn (s .tables)) (withTables s ready)
-              → cond (not (someb o)) (dispatched (lined k (single w))) (dispatched (settled k (single w))) ≡ pack (set os q turn) (dispatch (settle (levelOf s) (withTables s ready) (ended (s .tables) (eqb w))))
+              → cond (not (someb o)) (dispatched (entered k w)) (dispatched (entered (settled k) w)) ≡ pack (set os q turn) (dispatch (settle (levelOf s) (withTables s ready) (ended (s .tables) (eqb w))))
           unfolding someb heirAwaited
-          off-finish none own k f = ap (λ z. dispatched (lined z (single w))) f
-              ∙ lined-finish (set os q turn) s I (withTables s ready) (ended (s .tables) (eqb w)) F refl (places-end s ready (eqb w) refl refl (I .places)) (I .ascending) (single w) flagged
-              (level-same (s .tables) ready (λ i. lends-hands (setMessages (endWaits (s .tables) (eqb w) (λ j. granted)) q (ms ++ (sent ∷ []))) r m i
+          off-finish none own k f = enters k (f ∙ unchanged-pack (set os q turn) s (withTables s ready) refl (I .ascending)
+              (λ c h. level-same (s .tables) ready (λ i. lends-hands (setMessages (endWaits (s .tables) (eqb w) (λ j. granted)) q (ms ++ (sent ∷ []))) r m i
               ∙ lends-messages (endWaits (s .tables) (eqb w) (λ j. granted)) q (ms ++ (sent ∷ [])) i ∙ lends-end (s .tables) (eqb w) (λ j. granted)
-              (λ j g. ap (lends (s .tables)) (sym (eqb-true w j g)) ∙ awaits-lends (s .tables) (roomIn q) w (best-waits (s .tables) (I .facts) (roomIn q) w best) ∙ own) i) refl)
-          off-finish (some o) own k f = ap (λ z. dispatched (settled z (single w))) f
-              ∙ settled-finish (set os q turn) s I (withTables s ready) (ended (s .tables) (eqb w)) F refl (places-end s ready (eqb w) refl refl (I .places)) (I .ascending) (single w) flagged
+              (λ j g. ap (lends (s .tables)) (sym (eqb-true w j g)) ∙ awaits-lends (s .tables) (roomIn q) w (best-waits (s .tables) (I .facts) (roomIn q) w best) ∙ own) i) refl c))
+          off-finish (some o) own k f = enters (settled k) (ap settled f ∙ settle-pack (set os q turn) s (withTables s ready) F refl (λ i. omega (arith, I .places i)) (I .ascending))
 
           sent-off : (y : Queues) → y ≡ packQueues (set os q turn) (s .tables .queues)
               → sentOff (putQueues (pack os s) y) q w ≡ pack (set os q turn) (dispatch (settle (levelOf s) (withTables s ready) (ended (s .tables) (eqb w))))
           unfolding sentOff
           sent-off y f = ap (λ z. sentOff (putQueues (pack os s) z) q w) f
-              ∙ ap (λ z. cond z (dispatched (lined k (single w))) (dispatched (settled k (single w)))) (owner-kept ∙ unowned-test os s I q) ∙ off-finish (queueOwnerOf (s .tables) q) refl k off-woke
+              ∙ ap (λ z. cond z (dispatched (entered k w)) (dispatched (entered (settled k) w))) (owner-kept ∙ unowned-test os s I q) ∙ off-finish (queueOwnerOf (s .tables) q) refl k off-woke
             where
               k : State
               k = woke (putQueues (pack os s) (packQueues (set os q turn) (s .tables .queues))) (single w) granted granted

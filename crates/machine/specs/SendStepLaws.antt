@@ -7,15 +7,15 @@ use mathlib.Core.Option.{Option, none, some}
 use Prim.Native.Nat.{ℕ, _+_, _≤_, _<_}
 use native.Mathlib.Omega.{arith}
 use lib.Dec.{ltb, eqb}
-use lib.ListN.{length, replicate}
+use lib.ListN.{length}
 use borrow.Author.Tests.{leb-false, lt-ltb, le-ltb, not-false, eqb-true, eqb-false, ne-eqb}
 use Rattle.lists.specs.Test.{_and_, _or_, someb, holds}
 use Rattle.lists.specs.Count.{occ, member, opt}
 use Rattle.lists.specs.Order.{before}
 use Rattle.lists.specs.TestLaws.{which, clash, by-test, and-l, and-r, and-false, or-none}
 use Rattle.lists.specs.CountLaws.{occ-append}
-use Rattle.lists.specs.TableLaws.{getD-fill, length-snoc}
-use Rattle.rules.specs.Sizes.{taskPlaces, granted, onTime, onSend}
+use Rattle.lists.specs.TableLaws.{length-snoc}
+use Rattle.rules.specs.Sizes.{granted, onTime, onSend}
 use Rattle.rules.specs.Tables.{roomIn, messageIn, queueCount, waitOf, widthOf, depthOf, queueOwnerOf, messagesOf, waitFor}
 use Rattle.rules.specs.Tables.{awaitedKind, awaitedObject}
 use Rattle.rules.specs.Levels.{heirAwaited, lends, chainOf, linksOf, closesRing, bestWaiter}
@@ -34,18 +34,19 @@ use Rattle.rings.specs.Ring.{spot}
 use Rattle.record.specs.Record.{kindCode, packTasks, packMutexes, packSemaphores, packQueues, pack}
 use Rattle.record.specs.Layout.{ringOf}
 use Rattle.record.specs.Reads.{queueOwnerAt}
-use Rattle.machine.specs.Machine.{single, settled, dispatched, woke, lined, blockedOn, usedSet, widthAt, depthAt, usedAt, placeAt, answerMoving, answerIn, sendBlocked, sendWaits, delivered, sendOn, sendStep}
+use Rattle.machine.specs.Machine.{single, settled, dispatched, woke, entered, blockedOn, usedSet, widthAt, depthAt, usedAt, placeAt, answerMoving, answerIn, sendBlocked, sendWaits, delivered, sendOn, sendStep}
 use Rattle.record.specs.PackLaws.{levelColumn, packWith}
 use Rattle.record.specs.ReadLaws.{queue-owner-read, width-read, depth-read, used-read}
 use Rattle.record.specs.ColumnLaws.{chosen, skipped}
-use Rattle.machine.specs.FlagLaws.{flag-one, single-flags}
+use Rattle.machine.specs.FlagLaws.{single-flags}
 use Rattle.machine.specs.WaitLaws.{best-pack, queue-chain-pack}
-use Rattle.machine.specs.EffectLaws.{member-ended, woke-pack, blocked-pack}
+use Rattle.machine.specs.EffectLaws.{woke-pack, blocked-pack}
 use Rattle.machine.specs.ObjectLaws.{level-same, lends-begin, lends-end, lends-messages, lends-hands}
 use Rattle.machine.specs.QueueObjectLaws.{place-packed, used-set}
 use Rattle.machine.specs.RowLaws.{Course, ruled, on-row, on-accept, called-some, id-code, id-some, running-below, on-caller}
-use Rattle.machine.specs.FinishLaws.{quiet-pack, settled-finish, lined-finish, unchanged-finish}
-use Rattle.machine.specs.WaitStepLaws.{may-wait, time-test, best-named, best-below}
+use Rattle.machine.specs.StageLaws.{unchanged-pack}
+use Rattle.machine.specs.FinishLaws.{quiet-pack, settled-finish, one-finish, unchanged-finish}
+use Rattle.machine.specs.WaitStepLaws.{may-wait, time-test, best-named, best-ended, best-below}
 use Rattle.machine.specs.LockStepLaws.{holds-code, links-some}
 use Rattle.moves.specs.declared.Move.{Move}  -- keep
 use Rattle.moves.specs.declared.Move.the-variants.{Hold as HoldWords, Queue as QueueWords}  -- keep
@@ -136,19 +137,19 @@ module _ (os : List ℕ) (s : Model) (I : Inv s) where
         places i = omega (arith, occ-append i (s .tables .tasks .waiting) (r ∷ []), ap (λ z. occ i (opt z)) run)
 
         blocked-finish : (o : Option ℕ) → queueOwnerOf (s .tables) q ≡ o
-            → cond (not (someb o)) (dispatched (blockedOn (pack os s) r onSend q t)) (dispatched (settled (blockedOn (pack os s) r onSend q t) (replicate taskPlaces 0)))
+            → cond (not (someb o)) (dispatched (blockedOn (pack os s) r onSend q t)) (dispatched (settled (blockedOn (pack os s) r onSend q t)))
             ≡ pack os (dispatch (settle (levelOf s) waiting []))
         unfolding someb heirAwaited occ
         blocked-finish none e = ap dispatched (blocked-held r run q t m) ∙ unchanged-finish os s I waiting G refl (λ i. places i ∙ I .places i) (I .ascending)
             (λ i. level-same (s .tables) (waiting .tables)
             (λ j. lends-begin holding r (waitFor (roomIn q) t) (omega (arith, caller-in s I r run, I .facts .wait-column)) (caller-idle s I r run) e j ∙ lends-hands (s .tables) r m j) refl i)
-        blocked-finish (some o) e = ap (λ z. dispatched (settled z (replicate taskPlaces 0))) (blocked-held r run q t m)
-            ∙ settled-finish os s I waiting [] G refl (λ i. places i ∙ I .places i) (I .ascending) (replicate taskPlaces 0) (λ i. ap (λ z. eqb z 1) (getD-fill 0 taskPlaces i))
+        blocked-finish (some o) e = ap (λ z. dispatched (settled z)) (blocked-held r run q t m)
+            ∙ settled-finish os s I waiting G refl (λ i. places i ∙ I .places i) (I .ascending)
 
         send-blocked : sendBlocked (pack os s) q t ≡ pack os (dispatch (settle (levelOf s) waiting []))
         unfolding sendBlocked pack
-        send-blocked = ap (λ z. cond z (dispatched (blockedOn (pack os s) ((pack os s) .running) onSend q t)) (dispatched (settled (blockedOn (pack os s) ((pack os s) .running) onSend q t) (replicate taskPlaces 0)))) (unowned-test q)
-            ∙ ap (λ z. cond (not (someb (queueOwnerOf (s .tables) q))) (dispatched (blockedOn (pack os s) z onSend q t)) (dispatched (settled (blockedOn (pack os s) z onSend q t) (replicate taskPlaces 0)))) (id-some (s .running) r run)
+        send-blocked = ap (λ z. cond z (dispatched (blockedOn (pack os s) ((pack os s) .running) onSend q t)) (dispatched (settled (blockedOn (pack os s) ((pack os s) .running) onSend q t)))) (unowned-test q)
+            ∙ ap (λ z. cond (not (someb (queueOwnerOf (s .tables) q))) (dispatched (blockedOn (pack os s) z onSend q t)) (dispatched (settled (blockedOn (pack os s) z onSend q t)))) (id-some (s .running) r run)
             ∙ blocked-finish (queueOwnerOf (s .tables) q) refl
 
       -- the end of a send that meets a full queue, by the chain and the caller
@@ -217,14 +218,13 @@ module _ (os : List ℕ) (s : Model) (I : Inv s) where
           handed-woke = woke-pack os s (I .facts) (eqb w) (best-named os s I (messageIn q) w best) (single w) (single-flags w (best-below os s I (messageIn q) w best)) (λ i. granted) granted granted
               (λ i e. by-test (λ (z : ℕ). z ≡ granted) (eqb (kindCode (waitOf (s .tables) i)) onTime) (λ f. refl) (λ f. refl))
 
-          handed-finish : dispatched (lined (woke (pack os s) (single w) granted granted) (single w)) ≡ pack os (dispatch (settle (levelOf s) (withTables s handed) (ended (s .tables) (eqb w))))
+          handed-finish : dispatched (entered (woke (pack os s) (single w) granted granted) w) ≡ pack os (dispatch (settle (levelOf s) (withTables s handed) (ended (s .tables) (eqb w))))
           unfolding heirAwaited
-          handed-finish = ap (λ z. dispatched (lined z (single w))) handed-woke
-              ∙ lined-finish os s I (withTables s handed) (ended (s .tables) (eqb w)) (handed-facts (s .tables) (I .facts) q low m wide w best) refl
-              (places-end s handed (eqb w) refl refl (I .places)) (I .ascending) (single w)
-              (λ i. flag-one (single w) (eqb w) (single-flags w (best-below os s I (messageIn q) w best)) i ∙ sym (member-ended (s .tables) (I .facts) (eqb w) (best-named os s I (messageIn q) w best) i))
-              (level-same (s .tables) handed (λ i. lends-hands (endWaits (s .tables) (eqb w) (λ j. granted)) w m i ∙ lends-end (s .tables) (eqb w) (λ j. granted)
-              (λ j e. ap (lends (s .tables)) (sym (eqb-true w j e)) ∙ awaits-lends (s .tables) (messageIn q) w (best-waits (s .tables) (I .facts) (messageIn q) w best)) i) refl)
+          handed-finish = one-finish os s I (withTables s handed) (ended (s .tables) (eqb w)) (handed-facts (s .tables) (I .facts) q low m wide w best)
+              (places-end s handed (eqb w) refl refl (I .places)) _
+              (handed-woke ∙ unchanged-pack os s (withTables s handed) refl (I .ascending) (λ k h. level-same (s .tables) handed (λ i. lends-hands (endWaits (s .tables) (eqb w) (λ j. granted)) w m i ∙ lends-end (s .tables) (eqb w) (λ j. granted)
+              (λ j e. ap (lends (s .tables)) (sym (eqb-true w j e)) ∙ awaits-lends (s .tables) (messageIn q) w (best-waits (s .tables) (I .facts) (messageIn q) w best)) i) refl k))
+              w (best-ended os s I (messageIn q) w best)
 
           send-handed : sendOn (pack os s) q t ≡ ruled (going os (HoldWords w)) s x later
           unfolding delivered effect sendBy deliver awaitedKind awaitedObject idOf

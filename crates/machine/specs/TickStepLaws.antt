@@ -21,19 +21,21 @@ use Rattle.rules.specs.Sound.{waitCount}
 use Rattle.rules.specs.Invariant.{Facts, Inv}
 use Rattle.rules.specs.FactsLaws.{wait-ended, facts-end, facts-age}
 use Rattle.rules.specs.WaiterLaws.{due-waits, not-due, outcome-due, places-end}
+use Rattle.task_lists.specs.TaskList.{taskListOf}
 use Rattle.machine.specs.Planned.{planFor}
 use Rattle.moves.specs.declared.Move.the-variants.{Nothing}  -- keep
 use Rattle.record.specs.Record.{dueAt, kindCode, objectCode, timedCode, dueCode, packTasks, packMutexes, packSemaphores, pack}
 use Rattle.record.specs.Setters.{putLevel}
-use Rattle.machine.specs.Machine.{dueFlag, anyFlag, settled, dispatched, woke, answerIn, tickStep}
+use Rattle.machine.specs.Machine.{dueFlag, anyFlag, settled, dispatched, woke, allEntered, answerIn, tickStep}
 use Rattle.record.specs.PackLaws.{levelColumn, packWith}
 use Rattle.record.specs.ColumnLaws.{chosen, skipped, pad-ext}
 use Rattle.machine.specs.FlagLaws.{Flags, flag-one, no-flag}
 use Rattle.machine.specs.WaitLaws.{due-kind, aged-code, aged-kind, aged-object, aged-timed, due-flags}
-use Rattle.machine.specs.EffectLaws.{member-ended, woke-pack}
+use Rattle.machine.specs.EffectLaws.{flagged-ended, woke-pack}
 use Rattle.machine.specs.ObjectLaws.{level-same, lends-age}
 use Rattle.machine.specs.RowLaws.{still, ruled, by-rows, on-accept, on-started}
-use Rattle.machine.specs.FinishLaws.{quiet-pack, settled-finish}
+use Rattle.machine.specs.StageLaws.{settle-pack}
+use Rattle.machine.specs.FinishLaws.{quiet-pack, all-finish}
 use Rattle.record.specs.declared.State.{State}  -- keep
 use Rattle.record.specs.declared.Tasks.{Tasks}  -- keep
 use Rattle.record.specs.Setters.{putClock, putTasks}  -- keep
@@ -115,15 +117,19 @@ module _ (os : List ℕ) (s : Model) (I : Inv s) where
       (by-test (λ (w : Option Wait). isDue w ≡ false) (due (s .tables) i) (λ e. not-due) (λ e. e))
 
   -- some waits are due
-  due-finish : dispatched (settled (putClock (woke (pack os s) flags granted timedOut) (dueAt (s .clock) 1)) flags) ≡ pack os (dispatch (settle (levelOf s) ((tickOf s) .state) ((tickOf s) .woken)))
+  due-base : settled (putClock (woke (pack os s) flags granted timedOut) (dueAt (s .clock) 1)) ≡ pack os (settle (levelOf s) ((tickOf s) .state) [])
   unfolding tickOf
-  due-finish =
-      ap (λ z. dispatched (settled (putClock z (dueAt (s .clock) 1)) flags)) (woke-pack os s (I .facts) (due (s .tables)) named flags flags-due
+  due-base =
+      ap (λ z. settled (putClock z (dueAt (s .clock) 1))) (woke-pack os s (I .facts) (due (s .tables)) named flags flags-due
       (λ i. outcomeDue (waitOf (s .tables) i)) granted timedOut (λ i e. due-kind (waitOf (s .tables) i) e))
-      ∙ ap (λ z. dispatched (settled z flags)) (aged-pack os (withTables s expired) (levelColumn (s .tables)) expired-facts later)
-      ∙ settled-finish os s I (withClock (withTables s (ageAll expired)) ((s .clock + 1) % wordSize)) (ended (s .tables) (due (s .tables))) (facts-age expired later expired-facts) refl
-      (places-end s (ageAll expired) (due (s .tables)) refl refl (I .places)) (I .ascending) flags
-      (λ i. flag-one flags (due (s .tables)) flags-due i ∙ sym (member-ended (s .tables) (I .facts) (due (s .tables)) named i))
+      ∙ ap settled (aged-pack os (withTables s expired) (levelColumn (s .tables)) expired-facts later)
+      ∙ settle-pack os s (withClock (withTables s (ageAll expired)) ((s .clock + 1) % wordSize)) (facts-age expired later expired-facts) refl (λ i. omega (arith, I .places i)) (I .ascending)
+
+  due-finish : dispatched (allEntered (settled (putClock (woke (pack os s) flags granted timedOut) (dueAt (s .clock) 1))) (taskListOf (s .tables .tasks .waiting)) flags)
+      ≡ pack os (dispatch (settle (levelOf s) ((tickOf s) .state) ((tickOf s) .woken)))
+  unfolding tickOf
+  due-finish = all-finish os s I ((tickOf s) .state) (ended (s .tables) (due (s .tables))) (facts-age expired later expired-facts)
+      (places-end s (ageAll expired) (due (s .tables)) refl refl (I .places)) _ due-base (s .tables .tasks .waiting) flags (flagged-ended (s .tables) (due (s .tables)) flags flags-due)
 
   -- none is
   nobody-due : anyFlag flags ≡ false → (i : ℕ) → due (s .tables) i ≡ false

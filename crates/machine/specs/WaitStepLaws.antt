@@ -10,10 +10,11 @@ use native.Mathlib.Decide.{decLt}
 use lib.Dec.{ltb, leb, eqb}
 use borrow.Author.Tests.{leb-true, leb-false, eqb-true, eqb-false, not-true, not-false, lt-ltb, le-ltb, le-leb, lt-leb, eq-eqb, ne-eqb}
 use Rattle.lists.specs.Test.{_and_, _or_, someb}
-use Rattle.lists.specs.Count.{occ, member, opt}
+use Rattle.lists.specs.Count.{occ, opt}
 use Rattle.lists.specs.Table.{filled}
 use Rattle.lists.specs.TestLaws.{which, clash, by-test, same-test, and-l, and-r, and-false}
 use Rattle.lists.specs.CountLaws.{occ-append}
+use Rattle.lists.specs.OrderLaws.{keep-one}
 use Rattle.lists.specs.TableLaws.{getD-pad}
 use Rattle.chains.specs.Chain.{on}
 use Rattle.rules.specs.Sizes.{taskPlaces, maxSemaphores, maxTicks, forever, granted, flushed, onSemaphore, onTime}
@@ -28,20 +29,21 @@ use Rattle.rules.specs.LevelLaws.{heir-none, ring-none}
 use Rattle.rules.specs.FactsLaws.{facts-begin, facts-end, facts-count}
 use Rattle.rules.specs.WaiterLaws.{awaits-waits, awaited-blocked, awaits-lends, wait-in, best-waits, nobody-best, places-end}
 use Rattle.rules.specs.StepLaws.{left-wait, left-sleep, caller-in, caller-idle}
-use Rattle.task_lists.specs.TaskList.{noId, keyOf, idOf}
+use Rattle.task_lists.specs.TaskList.{noId, taskListOf, idOf}
 use Rattle.machine.specs.Planned.{planFor}
 use Rattle.moves.specs.declared.Move.the-variants.{Nothing}  -- keep
 use Rattle.record.specs.Record.{kindCode, packTasks, packMutexes, packSemaphores, pack}
 use Rattle.record.specs.Reads.{countAt, maximumAt}
-use Rattle.machine.specs.Machine.{single, waiterFlag, dispatched, woke, lined, blockedOn, countSet, answerIn, isTime, waitRefusal, mayWait, pendStep, creditStep, postStep, flushStep, sleepStep}
+use Rattle.machine.specs.Machine.{single, waiterFlag, dispatched, woke, entered, allEntered, blockedOn, countSet, answerIn, isTime, waitRefusal, mayWait, pendStep, creditStep, postStep, flushStep, sleepStep}
 use Rattle.record.specs.PackLaws.{levelColumn, packWith}
 use Rattle.record.specs.ColumnLaws.{chosen, skipped}
-use Rattle.machine.specs.FlagLaws.{Flags, flag-one, single-flags}
+use Rattle.machine.specs.FlagLaws.{Flags, single-flags}
 use Rattle.machine.specs.WaitLaws.{waiter-flags, best-pack}
-use Rattle.machine.specs.EffectLaws.{member-ended, woke-pack, blocked-pack}
+use Rattle.machine.specs.EffectLaws.{flagged-ended, woke-pack, blocked-pack}
 use Rattle.machine.specs.ObjectLaws.{count-set, level-same, lends-begin, lends-end, lends-semaphores}
 use Rattle.machine.specs.RowLaws.{still, ruled, by-rows, on-row, on-accept, held-on, held-off, either, called-some, id-some, on-caller, on-started}
-use Rattle.machine.specs.FinishLaws.{quiet-pack, lined-finish, unchanged-finish}
+use Rattle.machine.specs.StageLaws.{unchanged-pack}
+use Rattle.machine.specs.FinishLaws.{quiet-pack, all-finish, one-finish, unchanged-finish}
 use Rattle.record.specs.declared.State.{State}  -- keep
 use Rattle.record.specs.declared.Plan.{Plan}  -- keep
 use Rattle.record.specs.Setters.{putSemaphores}  -- keep
@@ -155,23 +157,33 @@ module _ (os : List ℕ) (s : Model) (I : Inv s) where
     pub ended-facts : Facts (endWaits (s .tables) p out)
     ended-facts = facts-end (s .tables) p out good (I .facts)
 
-    pub ended-flags : (i : ℕ) → eqb (keyOf flags i) 1 ≡ member i (ended (s .tables) p)
-    ended-flags i = flag-one flags p fl i ∙ sym (member-ended (s .tables) (I .facts) p named i)
+    -- none of them lent to anyone: no level changes
+    module _ (o : ℕ) (same : (i : ℕ) → o ≡ out i) (free-of : (i : ℕ) → p i ≡ true → lends (s .tables) i ≡ none) where
+      abbrev awake : Model
+      awake = withTables s (endWaits (s .tables) p out)
 
-    -- none of them lent to anyone
-    pub woken-finish : (o : ℕ) → ((i : ℕ) → o ≡ out i) → ((i : ℕ) → p i ≡ true → lends (s .tables) i ≡ none)
-        → dispatched (lined (woke (pack os s) flags o o) flags) ≡ pack os (dispatch (settle (levelOf s) (withTables s (endWaits (s .tables) p out)) (ended (s .tables) p)))
-    woken-finish o same free-of = ap (λ z. dispatched (lined z flags)) (woke-pack os s (I .facts) p named flags fl out o o
-        (λ i e. by-test (λ (z : ℕ). z ≡ out i) (eqb (kindCode (waitOf (s .tables) i)) onTime) (λ q. same i) (λ q. same i)))
-        ∙ lined-finish os s I (withTables s (endWaits (s .tables) p out)) (ended (s .tables) p) ended-facts refl
-        (places-end s (endWaits (s .tables) p out) p refl refl (I .places)) (I .ascending) flags ended-flags
-        (level-same (s .tables) (endWaits (s .tables) p out) (lends-end (s .tables) p out free-of) refl)
+      woken-base : woke (pack os s) flags o o ≡ pack os (settle (levelOf s) awake [])
+      woken-base = woke-pack os s (I .facts) p named flags fl out o o
+          (λ i e. by-test (λ (z : ℕ). z ≡ out i) (eqb (kindCode (waitOf (s .tables) i)) onTime) (λ q. same i) (λ q. same i))
+          ∙ unchanged-pack os s awake refl (I .ascending) (λ i h. level-same (s .tables) (endWaits (s .tables) p out) (lends-end (s .tables) p out free-of) refl i)
+
+      flushed-finish : dispatched (allEntered (woke (pack os s) flags o o) (taskListOf (s .tables .tasks .waiting)) flags) ≡ pack os (dispatch (settle (levelOf s) awake (ended (s .tables) p)))
+      flushed-finish = all-finish os s I awake (ended (s .tables) p) ended-facts (places-end s (endWaits (s .tables) p out) p refl refl (I .places))
+          (woke (pack os s) flags o o) woken-base (s .tables .tasks .waiting) flags (flagged-ended (s .tables) p flags fl)
+
+      posted-finish : (w : ℕ) → ended (s .tables) p ≡ w ∷ [] → dispatched (entered (woke (pack os s) flags o o) w) ≡ pack os (dispatch (settle (levelOf s) awake (ended (s .tables) p)))
+      posted-finish w e = one-finish os s I awake (ended (s .tables) p) ended-facts (places-end s (endWaits (s .tables) p out) p refl refl (I .places))
+          (woke (pack os s) flags o o) woken-base w e
 
   -- the best waiter
   module _ (a : Awaited) (w : ℕ) (best : bestWaiter (s .tables) a ≡ some w) where
     pub best-named : (i : ℕ) → eqb w i ≡ true → waitCount (waitOf (s .tables) i) ≡ 1
     best-named i e = ap (λ j. waitCount (waitOf (s .tables) j)) (sym (eqb-true w i e))
         ∙ awaits-waits (waitOf (s .tables) w) a (best-waits (s .tables) (I .facts) a w best)
+
+    -- it alone becomes ready
+    pub best-ended : ended (s .tables) (eqb w) ≡ w ∷ []
+    best-ended = keep-one w (s .tables .tasks .waiting) (I .facts .waiting w ∙ best-named w (eq-eqb w w refl))
 
     pub best-in : w < taskCount (s .tables)
     best-in = wait-in (s .tables) (I .facts) w (omega (arith, best-named w (eq-eqb w w refl)))
@@ -199,8 +211,8 @@ module _ (os : List ℕ) (s : Model) (I : Inv s) where
   post-credit k there (some w) e = skipped _ _ _ (ne-eqb w noId (λ q. omega (arith, best-below (semOf k) w e)))
       ∙ on-row (still os) s (post k) _ _ refl (λ f. absurd (clash f refl)) (λ f.
       on-accept (still os) s (post k) (credit s k (some w)) _ (ap (credit s k) e) refl
-      (woken-finish (eqb w) (best-named (semOf k) w e) (single w) (single-flags w (best-below (semOf k) w e)) (λ i. granted) (λ i q. inl refl) granted (λ i. refl)
-      (λ i q. ap (lends (s .tables)) (sym (eqb-true w i q)) ∙ awaits-lends (s .tables) (semOf k) w (best-waits (s .tables) (I .facts) (semOf k) w e))))
+      (posted-finish (eqb w) (best-named (semOf k) w e) (single w) (single-flags w (best-below (semOf k) w e)) (λ i. granted) (λ i q. inl refl) granted (λ i. refl)
+      (λ i q. ap (lends (s .tables)) (sym (eqb-true w i q)) ∙ awaits-lends (s .tables) (semOf k) w (best-waits (s .tables) (I .facts) (semOf k) w e)) w (best-ended (semOf k) w e)))
 
   pub post-pack : (k : ℕ) → postStep (pack os s) k ≡ planFor os Nothing (stepSound s (post k))
   unfolding postStep pack packSemaphores refusals awaitedKind awaitedObject
@@ -211,6 +223,6 @@ module _ (os : List ℕ) (s : Model) (I : Inv s) where
   unfolding flushStep pack packTasks packSemaphores refusals effect flushOf awaitedKind awaitedObject heirAwaited
   flush-pack k = by-rows os s (flush k) (on-started (still os) s I (flush k) _ (λ on. on-row (still os) s (flush k) _ _ refl (λ e. chosen _ _ _ e) (λ e. skipped _ _ _ e
       ∙ on-accept (still os) s (flush k) (flushOf s k) _ refl refl
-      (woken-finish (awaits (s .tables) (semOf k)) (λ i q. awaits-waits (waitOf (s .tables) i) (semOf k) q)
+      (flushed-finish (awaits (s .tables) (semOf k)) (λ i q. awaits-waits (waitOf (s .tables) i) (semOf k) q)
       (filled taskPlaces (waiterFlag ((pack os s) .tasks) onSemaphore k)) (waiter-flags (s .tables) (I .facts) (s .clock) (semOf k))
       (λ i. flushed) (λ i q. inr (inr refl)) flushed (λ i. refl) (awaits-lends (s .tables) (semOf k))))))

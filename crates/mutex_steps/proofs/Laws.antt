@@ -3,15 +3,15 @@ use mathlib.Core.Path.{_≡_, refl}
 use mathlib.Core.Bool.{Bool, true, false}
 use Prim.Native.Nat.{ℕ}
 use lib.Dec.{leb, eqb}
-use lib.ListN.{length, replicate}
+use lib.ListN.{length}
 use Rattle.lists.specs.Count.{member}
 use Rattle.lists.specs.Order.{before}
-use Rattle.rules.specs.Sizes.{taskPlaces, granted, onMutex}
+use Rattle.rules.specs.Sizes.{granted, onMutex}
 use Rattle.task_lists.specs.TaskList.{noId}
 use Rattle.record.specs.Reads.{ownerAt}
 use Rattle.record.specs.Setters.{putMutexes}
 use Rattle.record.specs.declared.State.{State}  -- keep
-use Rattle.machine.specs.Machine.{single, ownerSet, settled, dispatched, woke, blockedOn, answerIn, callerRefusal, calledBy, waitRefusal, mayWait, ownersFrom, lockWaits, lockOn, bestAt, passedTo, unlockStep}
+use Rattle.machine.specs.Machine.{single, ownerSet, settled, dispatched, woke, entered, blockedOn, answerIn, callerRefusal, calledBy, waitRefusal, mayWait, ownersFrom, lockWaits, lockOn, bestAt, passedTo, unlockStep}
 
 -- a lock, by the owner of the mutex
 module _ (k : State) (m t : ℕ) where
@@ -35,7 +35,7 @@ module _ (k : State) (m t : ℕ) where
     unfolding lockWaits mayWait
     waits-round e = rw (may, ← of, ← met, ← closed, e) refl
 
-    pub waits-on : ring ≡ false → lockWaits k m t ≡ answerIn (dispatched (settled (blockedOn k (k .running) onMutex m t) (replicate taskPlaces 0))) 1 links
+    pub waits-on : ring ≡ false → lockWaits k m t ≡ answerIn (dispatched (settled (blockedOn k (k .running) onMutex m t))) 1 links
     unfolding lockWaits mayWait
     waits-on e = rw (may, ← of, ← met, ← closed, e) refl
 
@@ -46,6 +46,6 @@ module _ (k : State) (m : ℕ) (called : eqb (callerRefusal (k .started) (k .run
   frees e = rw (called, there, owns, e) refl
 
   pub passes : (w : ℕ) → w ≡ bestAt k onMutex m → eqb w noId ≡ false
-      → unlockStep k m ≡ answerIn (dispatched (settled (putMutexes (woke k (single w) granted granted) (ownerSet (k .mutexes) m w)) (single w))) 0 0
+      → unlockStep k m ≡ answerIn (dispatched (entered (settled (putMutexes (woke k (single w) granted granted) (ownerSet (k .mutexes) m w))) w)) 0 0
   unfolding unlockStep calledBy passedTo
   passes w b e = rw (called, there, owns, ← b, e) refl

@@ -6,7 +6,6 @@ use record::NONE;
 use record::ON_MUTEX;
 use record::Plan;
 use record::State;
-use record::TASKS;
 use record::reads;
 use replies::answers;
 use replies::refusals;
@@ -43,8 +42,8 @@ pub fn lock(mut s: State, m: u32, time: u32) -> Plan
     }
     let mut tasks = waits::begin_wait(t, s.running, ON_MUTEX, j, s.clock, time);
     s.waiting = task_lists::push(s.waiting, s.running);
-    let q = s.ready;
-    let order = settle::settle(tasks, mutexes, receivers, q, [0u8; TASKS]);
+    let ready = s.ready;
+    let order = settle::settle(tasks, mutexes, receivers, ready);
     let levels = order.level;
     tasks.level = levels;
     s.tasks = tasks;
@@ -82,12 +81,13 @@ pub fn unlock(mut s: State, m: u32) -> Plan
     s.waiting = task_lists::keep_flagged(s.waiting, flags, 0);
     let queues = s.queues;
     let receivers = queues.owner;
-    let q = s.ready;
-    let order = settle::settle(tasks, mutexes, receivers, q, flags);
+    let others = s.ready;
+    let order = settle::settle(tasks, mutexes, receivers, others);
     let levels = order.level;
     tasks.level = levels;
     s.tasks = tasks;
-    let turn = settle::dispatch(s.started, order.ready, levels, s.running, s.hold);
+    let ready = task_lists::insert_tail(order.ready, levels, best);
+    let turn = settle::dispatch(s.started, ready, levels, s.running, s.hold);
     let queue = turn.ready;
     s.ready = queue;
     s.running = turn.running;

@@ -22,8 +22,7 @@ pub fn yield_now(mut s: State) -> Plan
     }
     let t = s.tasks;
     let levels = t.level;
-    let level = task_lists::key_of(levels, id) as u16;
-    let ready = task_lists::insert(s.ready, levels, level + 1, id);
+    let ready = task_lists::insert_tail(s.ready, levels, id);
     let turn = settle::dispatch(s.started, ready, levels, NONE, s.hold);
     let queue = turn.ready;
     s.ready = queue;

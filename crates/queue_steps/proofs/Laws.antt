@@ -5,34 +5,34 @@ use mathlib.Core.Bool.{Bool, true, false, cond}
 use mathlib.Core.Logic.{inl, inr}
 use Prim.Native.Nat.{ℕ}
 use lib.Dec.{ltb, eqb}
-use lib.ListN.{length, replicate}
+use lib.ListN.{length}
 use Rattle.lists.specs.TestLaws.{which}
 use Rattle.lists.specs.Count.{member}
 use Rattle.lists.specs.Order.{before}
-use Rattle.rules.specs.Sizes.{taskPlaces, granted, onSend, onReceive}
-use Rattle.task_lists.specs.TaskList.{noId, kept}
+use Rattle.rules.specs.Sizes.{granted, onSend, onReceive}
+use Rattle.task_lists.specs.TaskList.{noId, tailed}
 use Rattle.record.specs.Reads.{queueOwnerAt}
-use Rattle.record.specs.Setters.{putTasks, putQueues, putWaiting}
+use Rattle.record.specs.Setters.{putQueues}
 use Rattle.record.specs.declared.State.{State}  -- keep
-use Rattle.record.specs.declared.Tasks.{Tasks}  -- keep
 use Rattle.record.specs.declared.Queues.{Queues}  -- keep
 use Rattle.task_lists.specs.declared.TaskList.{TaskList}  -- keep
 use Rattle.moves.specs.declared.Move.{Move}  -- keep
 use Rattle.moves.specs.declared.Move.the-variants.{Hold as HoldWords, Swap}  -- keep
 use Rattle.machine.specs.declared.Order.{Order}  -- keep
 use Rattle.machine.specs.declared.Turn.{Turn}  -- keep
-use Rattle.machine.specs.Machine.{endedWhere, single, orderBehind, orderWith, putOrder, settled, turnOf, putTurn, dispatched, woke, lined, blockedOn, widthAt, depthAt, usedAt, oldestSet, nextOldest, placeAt, answerIn, answerMoving, waitRefusal, mayWait, timedRefusal, ownersFrom, bestAt, sendBlocked, sendWaits, delivered, sendStep, sentOff, takenIn}
+use Rattle.machine.specs.Machine.{single, orderBehind, putOrder, settled, turnOf, putTurn, dispatched, woke, entered, blockedOn, widthAt, depthAt, usedAt, oldestSet, nextOldest, placeAt, answerIn, answerMoving, waitRefusal, mayWait, timedRefusal, ownersFrom, bestAt, sendBlocked, sendWaits, delivered, sendStep, sentOff, takenIn}
 use Rattle.machine.specs.TimedLaws.{send-passed}
 
--- levels and order by the queue's owner, and then the running task chosen: where somebody begins to wait for room, and where somebody did
-module _ (k : State) (owner : ℕ) (o : Order) (u : Turn) (f : u ≡ turnOf (k .started) (o .ready) (o .level) (k .running) (k .hold)) where
-  behind : o ≡ orderBehind owner (k .tasks) (k .mutexes) (k .queues) (k .ready) → putTurn (putOrder k o) u ≡ cond (eqb owner noId) (dispatched k) (dispatched (settled k (replicate taskPlaces 0)))
+-- levels and order by the queue's owner, and then the running task chosen: where somebody begins to wait for room, and where w did
+module _ (k : State) (owner : ℕ) (o : Order) (u : Turn) (e : o ≡ orderBehind owner (k .tasks) (k .mutexes) (k .queues) (k .ready)) where
+  behind : u ≡ turnOf (k .started) (o .ready) (o .level) (k .running) (k .hold) → putTurn (putOrder k o) u ≡ cond (eqb owner noId) (dispatched k) (dispatched (settled k))
   unfolding settled dispatched
-  behind e = elim (which (eqb owner noId)) [ inl b ↦ rw (f, e, b) refl | inr b ↦ rw (f, e, b) refl ]
+  behind f = elim (which (eqb owner noId)) [ inl b ↦ rw (f, e, b) refl | inr b ↦ rw (f, e, b) refl ]
 
-  turned : (woken : List ℕ) → o ≡ orderWith owner (k .tasks) (k .mutexes) (k .queues) (k .ready) woken → putTurn (putOrder k o) u ≡ cond (eqb owner noId) (dispatched (lined k woken)) (dispatched (settled k woken))
-  unfolding settled lined dispatched
-  turned woken e = elim (which (eqb owner noId)) [ inl b ↦ rw (f, e, b) refl | inr b ↦ rw (f, e, b) refl ]
+  turned : (w : ℕ) (l : TaskList) → l ≡ tailed (o .ready) (o .level) w → u ≡ turnOf (k .started) l (o .level) (k .running) (k .hold)
+      → putTurn (putOrder k o) u ≡ cond (eqb owner noId) (dispatched (entered k w)) (dispatched (entered (settled k) w))
+  unfolding settled entered dispatched
+  turned w l g f = elim (which (eqb owner noId)) [ inl b ↦ rw (f, g, e, b) refl | inr b ↦ rw (f, g, e, b) refl ]
 
 -- a send that would wait, by what the walk along the chain found
 module _ (k : State) (q t : ℕ) where
@@ -45,7 +45,7 @@ module _ (k : State) (q t : ℕ) where
         → o ≡ orderBehind owner (z .tasks) (z .mutexes) (z .queues) (z .ready) → u ≡ turnOf (z .started) (o .ready) (o .level) (z .running) (z .hold)
         → putTurn (putOrder z o) u ≡ sendBlocked k q t
     unfolding sendBlocked
-    blocked-turn z o u b e f = behind z owner o u f e ∙ rw (b, of) refl
+    blocked-turn z o u b e f = behind z owner o u e f ∙ rw (b, of) refl
 
     module _ (links : ℕ) (ring : Bool) (may : eqb (waitRefusal (k .hold) t) 0 ≡ true)
         (met : links ≡ length (before (k .running) (ownersFrom (k .tasks) (k .mutexes) (k .queues) owner))) (closed : ring ≡ member (k .running) (ownersFrom (k .tasks) (k .mutexes) (k .queues) owner)) where
@@ -73,18 +73,12 @@ module _ (k : State) (q t count : ℕ) (passed : eqb (timedRefusal (k .started) 
       pub full-waits : eqb (queueOwnerAt (k .queues) q) (k .running) ≡ false → sendStep k q t count ≡ sendWaits k q t
       full-waits e = send-passed k q t count passed ∙ rw (wide, full, e) refl
 
--- the flagged waits end
-pub woke-parts : (k : State) (flags : List ℕ) (slept other : ℕ) (t : Tasks) (w : TaskList) → t ≡ endedWhere (k .tasks) flags slept other → w ≡ kept (k .waiting) flags 0
-    → putWaiting (putTasks k t) w ≡ woke k flags slept other
-unfolding woke
-woke-parts k flags slept other t w e f = rw (e, f) refl
-
 -- a waiting sender becomes ready
-pub sent-turn : (k : State) (q w owner : ℕ) (flags : List ℕ) (z : State) (o : Order) (u : Turn) → owner ≡ queueOwnerAt (k .queues) q → flags ≡ single w → z ≡ woke k flags granted granted
-    → o ≡ orderWith owner (z .tasks) (z .mutexes) (z .queues) (z .ready) flags → u ≡ turnOf (z .started) (o .ready) (o .level) (z .running) (z .hold)
+pub sent-turn : (k : State) (q w owner : ℕ) (flags : List ℕ) (z : State) (o : Order) (l : TaskList) (u : Turn) → owner ≡ queueOwnerAt (k .queues) q → flags ≡ single w → z ≡ woke k flags granted granted
+    → o ≡ orderBehind owner (z .tasks) (z .mutexes) (z .queues) (z .ready) → l ≡ tailed (o .ready) (o .level) w → u ≡ turnOf (z .started) l (o .level) (z .running) (z .hold)
     → putTurn (putOrder z o) u ≡ sentOff k q w
 unfolding sentOff
-sent-turn k q w owner flags z o u of g b e f = turned z owner o u f flags e ∙ rw (b, g, of) refl
+sent-turn k q w owner flags z o l u of g b e h f = turned z owner o u e w l h f ∙ rw (b, g, of) refl
 
 -- its message goes to the place of the oldest
 pub passes-on : (k : State) (q : ℕ) (x : Queues) (n w : ℕ) (m : Move) → x ≡ oldestSet (k .queues) q n → n ≡ nextOldest (k .queues) q → w ≡ bestAt k onSend q

@@ -4,7 +4,7 @@ ghost use Prim.Native.Nat.{_<_};
 ghost use Rattle.rules.specs.Sizes.{onSend, onReceive};
 ghost use Rattle.record.specs.declared.Queues.{Queues};
 ghost use Rattle.moves.specs.declared.Move.the-variants.{Take, Swap};
-ghost use Rattle.machine.specs.Machine.{widthAt, usedAt, placeAt, bestAt, orderBehind, orderWith, sendWaits, delivered, sendStep, takenIn, mayTake, receiveStep};
+ghost use Rattle.machine.specs.Machine.{widthAt, usedAt, placeAt, bestAt, orderBehind, sendWaits, delivered, sendStep, takenIn, mayTake, receiveStep};
 use machine::Order;
 use moves::Move;
 use record::GRANTED;
@@ -16,13 +16,12 @@ use record::Plan;
 use record::QUEUES;
 use record::Queues;
 use record::State;
-use record::TASKS;
 use record::Tasks;
 use replies::answers;
 use replies::refusals;
 use task_lists::TaskList;
 
-// Levels and the ready order once a wait to send has begun: where the queue has no owner nothing is lent, and both stay.
+// Levels and the ready order once a wait to send has begun or ended: where the queue has no owner nothing is lent, and both stay.
 fn order_behind(owner: u8, t: Tasks, m: Mutexes, receivers: [u8; QUEUES], ready: TaskList) -> Order
     ensures { λ r. ⌜ ((x : Queues) → x .owner ≡ receivers → r ≡ orderBehind owner t m x ready) ⌝ }
 {
@@ -33,29 +32,7 @@ fn order_behind(owner: u8, t: Tasks, m: Mutexes, receivers: [u8; QUEUES], ready:
             ready: ready,
         };
     }
-    settle::settle(t, m, receivers, ready, [0u8; TASKS])
-}
-
-// The same once such waits have ended, and those tasks become ready: where the queue has no owner nothing was lent, and levels stay.
-fn order_with(
-    owner: u8,
-    t: Tasks,
-    m: Mutexes,
-    receivers: [u8; QUEUES],
-    ready: TaskList,
-    woken: [u8; TASKS],
-) -> Order
-    ensures { λ r. ⌜ ((x : Queues) → x .owner ≡ receivers → r ≡ orderWith owner t m x ready woken) ⌝ }
-{
-    if owner != NONE {
-        return settle::settle(t, m, receivers, ready, woken);
-    }
-    let levels = t.level;
-    let order = task_lists::insert_flagged(ready, levels, woken, t.n);
-    Order {
-        level: levels,
-        ready: order,
-    }
+    settle::settle(t, m, receivers, ready)
 }
 
 // The caller waits for room, its words held, unless it may not.
@@ -110,7 +87,7 @@ fn deliver(mut s: State, q: u8) -> Plan
     s.tasks = tasks;
     s.waiting = task_lists::keep_flagged(s.waiting, flags, 0);
     let levels = tasks.level;
-    let ready = task_lists::insert_flagged(s.ready, levels, flags, tasks.n);
+    let ready = task_lists::insert_tail(s.ready, levels, best);
     let turn = settle::dispatch(s.started, ready, levels, s.running, s.hold);
     let queue = turn.ready;
     s.ready = queue;
@@ -189,12 +166,13 @@ fn take(mut s: State, q: u8) -> Plan
     let mutexes = s.mutexes;
     let receivers = moved.owner;
     let owner = queue_places::owner_at(moved, q);
-    let ready = s.ready;
-    let order = order_with(owner, tasks, mutexes, receivers, ready, flags);
+    let others = s.ready;
+    let order = order_behind(owner, tasks, mutexes, receivers, others);
     let levels = order.level;
     tasks.level = levels;
     s.tasks = tasks;
-    let turn = settle::dispatch(s.started, order.ready, levels, caller, s.hold);
+    let ready = task_lists::insert_tail(order.ready, levels, best);
+    let turn = settle::dispatch(s.started, ready, levels, caller, s.hold);
     let queue = turn.ready;
     s.ready = queue;
     s.running = turn.running;

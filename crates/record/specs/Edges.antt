@@ -251,8 +251,8 @@ edgeTable =
     gets (Sleep 2147483648) 7 0 (some 0) ∷
     gets (Sleep 2147483647) 1 0 none ∷
     []) ∷
-    -- "ready tasks whose level changed go, by ascending id, to the tail of their new level; newly ready tasks go, by ascending id, to the tail
-    -- of theirs": at the last tick task 2 falls to level 5, where task 1 stands, and task 0 wakes
+    -- "ready tasks whose level changed go, by ascending id, to the tail of their new level; newly ready tasks go [..] to the tail of theirs": at
+    -- the last tick task 2 falls to level 5, where task 1 stands, and task 0 wakes
     edge "order" (freshWith []) 3 (
     gets (Task 5) 0 0 none ∷
     gets (Task 5) 0 1 none ∷
@@ -277,6 +277,23 @@ edgeTable =
     gets (Sleep 9) 1 0 (some 1) ∷
     gets (Sleep 9) 1 0 (some 2) ∷
     gets (Sleep 9) 1 0 (some 0) ∷
+    []) ∷
+    -- document 02, K3: "They are to enter in the order in which their waits began, for ticks and for flush alike": task 1 waits first each
+    -- time, and then task 0
+    edge "K3 woken together" (freshWith []) 2 (
+    gets (Task 5) 0 0 none ∷
+    gets (Task 5) 0 1 none ∷
+    gets (Sem 0 1) 0 0 none ∷
+    gets Start 0 0 (some 0) ∷
+    gets Yield 0 0 (some 1) ∷
+    gets (Sleep 2) 1 0 (some 0) ∷
+    gets (Pend 0 2) 1 0 none ∷
+    gets Tick 0 0 none ∷
+    gets Tick 0 0 (some 1) ∷
+    gets (Pend 0 9) 1 0 (some 0) ∷
+    gets (Pend 0 9) 1 0 none ∷
+    gets (Flush 0) 0 0 (some 1) ∷
+    gets Yield 0 0 (some 0) ∷
     []) ∷
     -- "ownership passes to the best waiter, which becomes ready with outcome 0"
     edge "unlock" (freshWith []) 1 (

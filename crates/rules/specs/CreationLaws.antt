@@ -26,7 +26,7 @@ use Rattle.rules.specs.Invariant.{Facts, SetUp, Inv}
 use Rattle.rules.specs.LevelLaws.{wait-out, next-none}
 use Rattle.rules.specs.FactsLaws.{next-same, ends-same, still, queued-same}
 use Rattle.rules.specs.QueueLaws.{length-held, held-past}
-use Rattle.rules.specs.SettleLaws.{settled-same, settled-made, finish-inv}
+use Rattle.rules.specs.SettleLaws.{settled-same, settled-one, finish-inv}
 use Rattle.rules.specs.WaiterLaws.{wait-none, level-alone}
 
 -- one more place, for which nobody waits as yet
@@ -313,4 +313,4 @@ module _ (s : State) (I : Inv s) (off : s .started ≡ false) where
       same = ready-alone t F (U .nobody-waits) (omega (arith, more)) (λ i h. List·getD-append (s .tables .tasks .priorities) (p ∷ []) 0 i h)
 
       order : settledReady (taskCount t) (levelOf s) (levelIn t) (s .ready) (n ∷ []) ≡ insertTail (levelIn t) n (s .ready)
-      order = ap (λ k. settledReady k (levelOf s) (levelIn t) (s .ready) (n ∷ [])) more ∙ settled-made n (levelOf s) (levelIn t) (s .ready) same (I .ascending)
+      order = settled-one (taskCount t) n (levelOf s) (levelIn t) (s .ready) same (I .ascending)

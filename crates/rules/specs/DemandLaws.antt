@@ -117,7 +117,7 @@ module _ (s : State) (h : Told) (I : Inv s) (A : Agrees s h) where
       value i low = ap (λ a. a .value) (level-call i low none tt)
 
 -- over the list: the state stays sound and agrees with what is told
-list-sound : (cs : List Call) (s : State) (h : Told) → Inv s → Agrees s h → Inv (after s cs) × Agrees (after s cs) (toldFrom h (events s cs))
+pub list-sound : (cs : List Call) (s : State) (h : Told) → Inv s → Agrees s h → Inv (after s cs) × Agrees (after s cs) (toldFrom h (events s cs))
 unfolding after events toldFrom
 list-sound [] s h I A = (I, A)
 list-sound (c ∷ cs) s h I A = list-sound cs ((call s c) .state) (observe h (eventOf (c .made) (call s c))) (call-inv s I c) (call-agrees s h I A c)

@@ -14,7 +14,7 @@ use Rattle.rules.specs.Levels.{linksOf, awaits, bestWaiter}
 use Rattle.rules.specs.State.{State, withTables, withStarted, withClock, withHold, placed, levelOf}
 use Rattle.rules.specs.Step.{Step, task, mutex, sem, start, lock, unlock, pend, post, flush, sleep, yield, hold, free, tick, level, outcome, queue, send, receive, word}
 
--- the state after the effect, the tasks that became ready in it, and the answer's number and value
+-- the state after the effect, the tasks that became ready in it in the order in which they enter, and the answer's number and value
 pub record Effect : Type 0 where
   pub state : State
   pub woken : List ℕ
@@ -93,7 +93,7 @@ beginWait t r w = withWaits t (set (t .tasks .waits) r (some w)) (t .tasks .wait
 abbrev pub endWaits : Tables → (ℕ → Bool) → (ℕ → ℕ) → Tables
 endWaits t p out = withWaits t (putWhere p (λ i. none) (t .tasks .waits)) (keep (λ i. not (p i)) (t .tasks .waiting)) (putWhere p out (t .tasks .outcomes))
 
--- who becomes ready when those waits end
+-- who becomes ready when those waits end; document 02, K3: "in the order in which their waits began"
 abbrev pub ended : Tables → (ℕ → Bool) → List ℕ
 ended t p = keep p (t .tasks .waiting)
 

@@ -28,5 +28,7 @@ pub mod AgreeLaws
 pub mod DemandLaws
 pub mod OutcomeLaws
 pub mod KeptLaws
+pub mod Woken
+pub mod WokenLaws
 pub mod Objects
 pub mod LinkLaws

@@ -28,7 +28,7 @@ use Rattle.rules.specs.Answer.{Answer, answered, decide, stepSound, stan
 use Rattle.rules.specs.Log.{logLine, withRoom, memoryAfter, Call, inRoom, call}
 use Rattle.rules.specs.Invariant.{Inv}
 use Rattle.rules.specs.SettleLaws.{settled-one}
-use Rattle.rules.specs.StepLaws.{passed, held-runs, caller-in}
+use Rattle.rules.specs.StepLaws.{passed, held-runs}
 use Rattle.rules.specs.SoundLaws.{inv-sound}
 
 -- each step's rows stand in the order of the table
@@ -295,7 +295,7 @@ yield-to-tail s I r began run unheld = step-by (λ a. a .state ≡ next) s yield
 
     go : (o : Option ℕ) → o ≡ some r → finish s (called s o (yieldBy s)) ≡ next
     go o q = rw q (by-test (λ (z : State). z ≡ next) (s .started)
-        (λ e. meet-again s none none _ _ ∙ ap (meet s none) (settled-one (taskCount (s .tables)) r (levelOf s) (levelOf s) (s .ready) (caller-in s I r run) (λ i m. refl) (I .ascending))) (λ e. absurd (clash began e)))
+        (λ e. meet-again s none none _ _ ∙ ap (meet s none) (settled-one (taskCount (s .tables)) r (levelOf s) (levelOf s) (s .ready) (λ i m. refl) (I .ascending))) (λ e. absurd (clash began e)))
 
 -- 15: "the state handed in isn't sound", and no task is named
 pub unsound-15 : (s : State) (x : Step) → isFormed x ≡ true → soundb s ≡ false → step s x ≡ record { state = s; number = 15; value = 0; run = none }

@@ -12,11 +12,12 @@ use Rattle.rules.specs.State.{State, placed, levelOf}
 use Rattle.rules.specs.Effect.{Effect}
 
 -- "ready tasks whose level changed go, by ascending id, to the tail of their new level; newly ready tasks go, by ascending id, to the
--- tail of theirs": old are the levels before the step
+-- tail of theirs"; document 02, K3, of the newly ready: "They are to enter in the order in which their waits began, for ticks and for flush
+-- alike. Ready tasks whose level changed keep id order." old are the levels before the step, and woken stands in that order (Effect.ended)
 unfoldable pub settledReady : ℕ → (ℕ → ℕ) → (ℕ → ℕ) → List ℕ → List ℕ → List ℕ
 settledReady n old new ready woken =
     let same : ℕ → Bool = λ i. eqb (new i) (old i) in
-    stable new (keep same ready ++ (byId n (λ i. not (same i) and member i ready) ++ byId n (λ i. member i woken)))
+    stable new (keep same ready ++ (byId n (λ i. not (same i) and member i ready) ++ woken))
 
 abbrev pub settle : (ℕ → ℕ) → State → List ℕ → State
 settle old s woken = placed s (s .running) (settledReady (taskCount (s .tables)) old (levelOf s) (s .ready) woken)

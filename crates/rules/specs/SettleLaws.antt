@@ -4,7 +4,7 @@ use mathlib.Core.List.{List, [], _∷_, _++_, append-nil}
 use mathlib.Core.Bool.{Bool, true, false, not}
 use mathlib.Core.Logic.{inl, inr}
 use mathlib.Core.Option.{Option, none, some}
-use Prim.Native.Nat.{ℕ, suc, _+_, _≤_, _<_}
+use Prim.Native.Nat.{ℕ, _+_, _≤_, _<_}
 use native.Mathlib.Omega.{arith}
 use native.Mathlib.Decide.{ℕ-discrete}
 use lib.Dec.{ltb, leb, eqb}
@@ -13,8 +13,8 @@ use Rattle.lists.specs.Test.{_and_}
 use Rattle.lists.specs.Count.{occ, member, below, opt}
 use Rattle.lists.specs.Order.{keep, byId, place, insertTail, insertHead, insertAll, stable, Asc}
 use Rattle.lists.specs.TestLaws.{which, clash, by-test, and-r, true-and, and-false, some-same}
-use Rattle.lists.specs.CountLaws.{eqn-other, occ-append, occ-head}
-use Rattle.lists.specs.OrderLaws.{insertAll-append, keep-in, asc-keep, occ-place, asc-first, asc-insertHead, asc-stable, occ-stable, stable-asc, stable-snoc, keep-all, occ-byId, occ-split, asc-change, byId-none, byId-one}
+use Rattle.lists.specs.CountLaws.{eqn-other, occ-append}
+use Rattle.lists.specs.OrderLaws.{insertAll-append, occ-insertAll, keep-in, asc-keep, occ-place, asc-first, asc-insertHead, asc-stable, occ-stable, stable-asc, stable-append, keep-all, occ-split, asc-change, byId-none}
 use Rattle.rules.specs.Sizes.{wordSize, maxHold}
 use Rattle.rules.specs.Tables.{taskCount}
 use Rattle.rules.specs.State.{State, placed, levelOf}
@@ -22,38 +22,18 @@ use Rattle.rules.specs.Effect.{Effect}
 use Rattle.rules.specs.Settle.{settledReady, settle, meet, dispatch, finish}
 use Rattle.rules.specs.Invariant.{Facts, Places, Runs, Urgent, HoldRuns, SetUp, Inv}
 
--- the settled order is ascending and holds who was ready and who became so
+-- the settled order is ascending
 pub asc-settled : (n : ℕ) (old new : ℕ → ℕ) (ready woken : List ℕ) → Asc new (settledReady n old new ready woken)
 unfolding settledReady
 asc-settled n old new ready woken = asc-stable new _
 
-pub occ-settled : (n : ℕ) (old new : ℕ → ℕ) (ready woken : List ℕ) (i : ℕ) → occ i ready ≤ below i n → occ i woken ≤ below i n
-    → occ i (settledReady n old new ready woken) ≡ occ i woken + occ i ready
-unfolding settledReady
-occ-settled n old new ready woken i h k =
-    let same : ℕ → Bool = λ j. eqb (new j) (old j) in
-    let moved = byId n (λ j. not (same j) and member j ready) in
-    let came = byId n (λ j. member j woken) in
-    omega (
-      arith,
-      occ-stable new i (keep same ready ++ (moved ++ came)),
-      occ-append i (keep same ready) (moved ++ came),
-      occ-append i moved came,
-      occ-split i n same ready h,
-      occ-byId i n woken k,
-    )
-
--- "ready tasks whose level changed go, by ascending id, to the tail of their new level; newly ready tasks go, by ascending id, to the tail of
--- theirs": the others stay as they stood, then come the moved ones, one after another, and then those that became ready
-pub settled-order : (n : ℕ) (old new : ℕ → ℕ) (ready woken : List ℕ) → Asc old ready
-    → settledReady n old new ready woken
-    ≡ insertAll new (byId n (λ i. member i woken))
-    (insertAll new (byId n (λ i. not (eqb (new i) (old i)) and member i ready)) (keep (λ i. eqb (new i) (old i)) ready))
+-- those that became ready go in last, one after another as they stand
+pub settled-woken : (n : ℕ) (old new : ℕ → ℕ) (ready woken : List ℕ) → settledReady n old new ready woken ≡ insertAll new woken (settledReady n old new ready [])
 unfolding settledReady stable
-settled-order n old new ready woken a =
-    insertAll-append new (keep same ready) (moved ++ came) []
-    ∙ (insertAll-append new moved came (insertAll new (keep same ready) [])
-    ∙ ap (λ l. insertAll new came (insertAll new moved l)) (stable-asc new (keep same ready) kept))
+settled-woken n old new ready woken =
+    insertAll-append new (keep same ready) (moved ++ woken) []
+    ∙ insertAll-append new moved woken (insertAll new (keep same ready) [])
+    ∙ ap (insertAll new woken) (sym (rw (append-nil moved) (insertAll-append new (keep same ready) moved [])))
   where
     same : ℕ → Bool
     same i = eqb (new i) (old i)
@@ -61,21 +41,62 @@ settled-order n old new ready woken a =
     moved : List ℕ
     moved = byId n (λ i. not (same i) and member i ready)
 
-    came : List ℕ
-    came = byId n (λ i. member i woken)
+-- it holds who was ready and who became so
+occ-others : (n : ℕ) (old new : ℕ → ℕ) (ready : List ℕ) (i : ℕ) → occ i ready ≤ below i n → occ i (settledReady n old new ready []) ≡ occ i ready
+unfolding settledReady
+occ-others n old new ready i h =
+    let same : ℕ → Bool = λ j. eqb (new j) (old j) in
+    let moved = byId n (λ j. not (same j) and member j ready) in
+    omega (
+      arith,
+      occ-stable new i (keep same ready ++ (moved ++ [])),
+      occ-append i (keep same ready) (moved ++ []),
+      ap (occ i) (append-nil moved),
+      occ-split i n same ready h,
+    )
+
+pub occ-settled : (n : ℕ) (old new : ℕ → ℕ) (ready woken : List ℕ) (i : ℕ) → occ i ready ≤ below i n
+    → occ i (settledReady n old new ready woken) ≡ occ i woken + occ i ready
+occ-settled n old new ready woken i h = omega (
+  arith,
+  ap (occ i) (settled-woken n old new ready woken),
+  occ-insertAll new i woken (settledReady n old new ready []),
+  occ-others n old new ready i h,
+)
+
+-- "ready tasks whose level changed go, by ascending id, to the tail of their new level", and "keep id order": the others stay as they
+-- stood, then come the moved ones, one after another
+pub settled-moved : (n : ℕ) (old new : ℕ → ℕ) (ready : List ℕ) → Asc old ready
+    → settledReady n old new ready []
+    ≡ insertAll new (byId n (λ i. not (eqb (new i) (old i)) and member i ready)) (keep (λ i. eqb (new i) (old i)) ready)
+unfolding settledReady
+settled-moved n old new ready a = rw (append-nil moved) (stable-append new (keep same ready) moved kept)
+  where
+    same : ℕ → Bool
+    same i = eqb (new i) (old i)
+
+    moved : List ℕ
+    moved = byId n (λ i. not (same i) and member i ready)
 
     kept : Asc new (keep same ready)
     kept = asc-change old new (keep same ready) (λ y m. sym (eqb-true (new y) (old y) (keep-in same y ready m .0))) (asc-keep old same ready a)
 
--- where no ready task's level changed, only those that became ready move
-settled-unchanged : (n : ℕ) (old new : ℕ → ℕ) (ready woken : List ℕ) → ((i : ℕ) → 1 ≤ occ i ready → new i ≡ old i)
-    → settledReady n old new ready woken ≡ stable new (ready ++ byId n (λ i. member i woken))
+-- the whole order in the rules' words: who stays, then the moved by id, and then "the order in which their waits began"
+pub settled-order : (n : ℕ) (old new : ℕ → ℕ) (ready woken : List ℕ) → Asc old ready
+    → settledReady n old new ready woken
+    ≡ insertAll new woken (insertAll new (byId n (λ i. not (eqb (new i) (old i)) and member i ready)) (keep (λ i. eqb (new i) (old i)) ready))
+settled-order n old new ready woken a = settled-woken n old new ready woken ∙ ap (insertAll new woken) (settled-moved n old new ready a)
+
+-- where no ready task's level changed and nobody became ready, the order stays
+pub settled-same : (n : ℕ) (old new : ℕ → ℕ) (ready : List ℕ) → ((i : ℕ) → 1 ≤ occ i ready → new i ≡ old i) → Asc old ready
+    → settledReady n old new ready [] ≡ ready
 unfolding settledReady _and_
-settled-unchanged n old new ready woken h =
+settled-same n old new ready h a =
     rw (
       keep-all same ready (λ y m. eq-eqb (new y) (old y) (h y m)),
       byId-none n (λ i. not (same i) and member i ready) nobody,
-    ) refl
+      append-nil ready,
+    ) (stable-asc new ready (asc-change old new ready (λ y m. sym (h y m)) a))
   where
     same : ℕ → Bool
     same i = eqb (new i) (old i)
@@ -90,28 +111,11 @@ settled-unchanged n old new ready woken h =
         off true = refl
         off false = refl
 
-pub settled-same : (n : ℕ) (old new : ℕ → ℕ) (ready : List ℕ) → ((i : ℕ) → 1 ≤ occ i ready → new i ≡ old i) → Asc old ready
-    → settledReady n old new ready [] ≡ ready
-unfolding occ
-settled-same n old new ready h a =
-    settled-unchanged n old new ready [] h
-    ∙ rw (byId-none n (λ i. member i []) (λ y. refl), append-nil ready) (stable-asc new ready (asc-change old new ready (λ y m. sym (h y m)) a))
-
--- the one task that became ready goes to the tail of its level
-pub settled-one : (n r : ℕ) (old new : ℕ → ℕ) (ready : List ℕ) → r < n → ((i : ℕ) → 1 ≤ occ i ready → new i ≡ old i) → Asc old ready
+-- and the one task that became ready goes to the tail of its level
+pub settled-one : (n r : ℕ) (old new : ℕ → ℕ) (ready : List ℕ) → ((i : ℕ) → 1 ≤ occ i ready → new i ≡ old i) → Asc old ready
     → settledReady n old new ready (r ∷ []) ≡ insertTail new r ready
-unfolding occ
-settled-one n r old new ready low h a =
-    settled-unchanged n old new ready (r ∷ []) h
-    ∙ rw (
-      byId-one n r (λ i. member i (r ∷ [])) low (lt-ltb 0 (occ r (r ∷ [])) (occ-head r [])) (λ y q. le-ltb 0 (occ y (r ∷ [])) (omega (arith, eqn-other r y (λ e. q (sym e))))),
-      stable-snoc new ready r,
-    ) (ap (insertTail new r) (stable-asc new ready (asc-change old new ready (λ y m. sym (h y m)) a)))
-
--- so does the task made last
-pub settled-made : (n : ℕ) (old new : ℕ → ℕ) (ready : List ℕ) → ((i : ℕ) → 1 ≤ occ i ready → new i ≡ old i) → Asc old ready
-    → settledReady (suc n) old new ready (n ∷ []) ≡ insertTail new n ready
-settled-made n old new ready = settled-one (suc n) n old new ready (omega arith)
+unfolding insertAll
+settled-one n r old new ready h a = settled-woken n old new ready (r ∷ []) ∙ ap (insertTail new r) (settled-same n old new ready h a)
 
 -- "Equal levels never displace"
 pub equal-stays : (s : State) (r x : ℕ) (l : List ℕ) → levelOf s r ≤ levelOf s x → meet s (some r) (x ∷ l) ≡ placed s (some r) (x ∷ l)
@@ -188,7 +192,7 @@ finish-inv before e F clock depth P H U = by-test Inv (e .state .started)
     settled = settle old s (e .woken)
 
     places : (i : ℕ) → occ i [] + (occ i order + (occ i (s .tables .tasks .waiting) + occ i (opt (s .running)))) ≡ below i (taskCount (s .tables))
-    places i = omega (arith, P i, nothing, occ-settled (taskCount (s .tables)) old (levelOf s) (s .ready) (e .woken) i (omega (arith, P i)) (omega (arith, P i)))
+    places i = omega (arith, P i, nothing, occ-settled (taskCount (s .tables)) old (levelOf s) (s .ready) (e .woken) i (omega (arith, P i)))
       where
         nothing : occ i [] ≡ 0
         nothing = refl

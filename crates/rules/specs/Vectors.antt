@@ -1,4 +1,4 @@
--- Document 01's whole session, RK0's nested locks and two sessions with queues, computed by the rules from script to log: one table with one claim.
+-- Document 01's whole session, RK0's nested locks, two sessions with queues and two with tasks woken together, computed by the rules from script to log: one table with one claim.
 use mathlib.Core.Path.{_≡_, refl}
 use mathlib.Core.List.{List, [], _∷_, _++_, map}
 use mathlib.Core.Option.{Option, none, some}
@@ -13,7 +13,7 @@ use Rattle.chains.specs.Least.{least, leadsTo, leastLeading}
 use Rattle.rules.specs.Tables.{awaitedKind, awaitedObject, ticksOf, takenBy}
 use Rattle.rules.specs.Levels.{ownerAwaited, heirAwaited, ofWait, next, lends, levelIn, chainOf, sameAwaited, waitIsFor, waitersOf, bestWaiter}
 use Rattle.rules.specs.State.{State, fresh}
-use Rattle.rules.specs.Step.{Step, task, mutex, start, lock, unlock, sleep, hold, free, tick, level, outcome, queue, send, receive, word}
+use Rattle.rules.specs.Step.{Step, task, mutex, sem, start, lock, unlock, pend, flush, sleep, yield, hold, free, tick, level, outcome, queue, send, receive, word}
 use Rattle.rules.specs.Effect.{heldFor, callerWaits, lockBy, passOn, pendBy, credit, flushOf, deliver, sendBy, takeIn, receiveBy, isDue, outcomeDue, lessOne, age, tickOf, yieldBy, called, effect}
 use Rattle.rules.specs.Settle.{settledReady, meet, dispatch, finish}
 use Rattle.rules.specs.Refusal.{ofCaller, linksFor, refusals, firstRow}
@@ -166,16 +166,59 @@ mixedChain =
     line (outcome 2) 0 0 (some 2) ∷
     []
 
+-- document 02, K3: "They are to enter in the order in which their waits began": tasks 2, 0 and 1 of one level wake on the same tick
+wokenByTick : List Line
+wokenByTick =
+    line (task 4) 0 0 none ∷
+    line (task 4) 0 1 none ∷
+    line (task 4) 0 2 none ∷
+    line (task 6) 0 3 none ∷
+    line start 0 0 (some 0) ∷
+    line yield 0 0 (some 1) ∷
+    line yield 0 0 (some 2) ∷
+    line (sleep 3) 1 0 (some 0) ∷
+    line tick 0 0 (some 0) ∷
+    line (sleep 2) 1 0 (some 1) ∷
+    line (sleep 2) 1 0 (some 3) ∷
+    line tick 0 0 (some 3) ∷
+    line tick 0 0 (some 2) ∷
+    line (sleep 9) 1 0 (some 0) ∷
+    line (sleep 9) 1 0 (some 1) ∷
+    []
+
+-- "for ticks and for flush alike": tasks 3 and 1 of one level, and 2 and 0 of another
+wokenByFlush : List Line
+wokenByFlush =
+    line (task 4) 0 0 none ∷
+    line (task 3) 0 1 none ∷
+    line (task 4) 0 2 none ∷
+    line (task 3) 0 3 none ∷
+    line (sem 0 9) 0 0 none ∷
+    line start 0 0 (some 1) ∷
+    line yield 0 0 (some 3) ∷
+    line (pend 0 4294967295) 1 0 (some 1) ∷
+    line (pend 0 7) 1 0 (some 0) ∷
+    line yield 0 0 (some 2) ∷
+    line (pend 0 7) 1 0 (some 0) ∷
+    line (pend 0 7) 1 0 none ∷
+    line (flush 0) 0 0 (some 3) ∷
+    line (sleep 9) 1 0 (some 1) ∷
+    line (outcome 1) 0 21 (some 1) ∷
+    line (sleep 9) 1 0 (some 2) ∷
+    line (sleep 9) 1 0 (some 0) ∷
+    line (pend 0 0) 3 0 (some 0) ∷
+    []
+
 -- document 02, K1: "scripts are run with a block of 4096 words"
 abbrev scriptBlock : ℕ
 scriptBlock = 4096
 
 pub cases : List (List Line)
-cases = session ∷ nestedLocks ∷ roomOrder ∷ mixedChain ∷ []
+cases = session ∷ nestedLocks ∷ roomOrder ∷ mixedChain ∷ wokenByTick ∷ wokenByFlush ∷ []
 
 -- from a fresh state, the rules give each script the log beside it; unfolded is all that a step is made of, its test of soundness included
 pub cases-agree : map (λ c. replay (fresh scriptBlock) (map (λ l. l .made) c)) cases ≡ map (λ c. map (λ l. l .logged) c) cases
-unfolding cases session nestedLocks roomOrder mixedChain replay _and_ _or_ allb someb holds eqn occ keep range byId place insertTail insertHead insertAll stable ascb tiesb
+unfolding cases session nestedLocks roomOrder mixedChain wokenByTick wokenByFlush replay _and_ _or_ allb someb holds eqn occ keep range byId place insertTail insertHead insertAll stable ascb tiesb
     firstAt orElse firstFrom before inside edit walk endsb least leadsTo leastLeading awaitedKind awaitedObject ownerAwaited heirAwaited ofWait next lends levelIn chainOf
     sameAwaited waitIsFor waitersOf bestWaiter fresh ticksOf callerWaits lockBy passOn pendBy credit flushOf isDue outcomeDue lessOne age
     tickOf yieldBy called effect settledReady meet dispatch finish ofCaller linksFor refusals firstRow columnsb sizesb rangesb clockb waitCount

@@ -66,7 +66,7 @@ pub fn post(mut s: State, k: u32) -> Plan
     s.tasks = tasks;
     s.waiting = task_lists::keep_flagged(s.waiting, flags, 0);
     let levels = tasks.level;
-    let ready = task_lists::insert_flagged(s.ready, levels, flags, tasks.n);
+    let ready = task_lists::insert_tail(s.ready, levels, best);
     let turn = settle::dispatch(s.started, ready, levels, s.running, s.hold);
     let queue = turn.ready;
     s.ready = queue;
@@ -87,9 +87,10 @@ pub fn flush(mut s: State, k: u32) -> Plan
     let t = s.tasks;
     let tasks = waits::end_where(t, flags, FLUSHED, FLUSHED);
     s.tasks = tasks;
-    s.waiting = task_lists::keep_flagged(s.waiting, flags, 0);
+    let waited = s.waiting;
+    s.waiting = task_lists::keep_flagged(waited, flags, 0);
     let levels = tasks.level;
-    let ready = task_lists::insert_flagged(s.ready, levels, flags, tasks.n);
+    let ready = task_lists::insert_flagged(s.ready, levels, flags, waited);
     let turn = settle::dispatch(s.started, ready, levels, s.running, s.hold);
     let queue = turn.ready;
     s.ready = queue;

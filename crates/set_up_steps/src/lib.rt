@@ -29,7 +29,7 @@ pub fn task(mut s: State, priority: u32) -> Plan
     let p = priority as u8;
     let tasks = objects::add_task(s.tasks, p);
     let levels = tasks.level;
-    s.ready = task_lists::insert(s.ready, levels, p as u16 + 1, id);
+    s.ready = task_lists::insert_tail(s.ready, levels, id);
     s.tasks = tasks;
     answers::answer(s, 0, id as u32)
 }

@@ -14,35 +14,28 @@ use record::TASKS;
 use record::Tasks;
 use task_lists::TaskList;
 
-// The ready order by the new levels: those whose level changed, and then the woken ones, by id at the tail of their level.
-// Mostly no level changed: then only the woken go in, and the list isn't made anew.
-fn resettle(q: TaskList, old: [u8; TASKS], new: [u8; TASKS], woken: [u8; TASKS], n: u8) -> TaskList
-    ensures { λ r. ⌜ r ≡ resettled q old new woken n ⌝ }
+// The ready order by the new levels: those whose level changed go, by id, to the tail of their level. Mostly no level changed, and the order stays.
+fn resettle(q: TaskList, old: [u8; TASKS], new: [u8; TASKS], n: u8) -> TaskList
+    ensures { λ r. ⌜ r ≡ resettled q old new n ⌝ }
 {
     let changed = tables::differ(old, new);
-    if waits::any_flag(changed) {
-        let there = task_list_checks::count_in([0u8; TASKS], q);
-        let moved = tables::both(changed, there);
-        let stay = task_lists::keep_flagged(q, changed, 0);
-        let back = task_lists::insert_flagged(stay, new, moved, n);
-        return task_lists::insert_flagged(back, new, woken, n);
+    if !waits::any_flag(changed) {
+        return q;
     }
-    task_lists::insert_flagged(q, new, woken, n)
+    let there = task_list_checks::count_in([0u8; TASKS], q);
+    let moved = tables::both(changed, there);
+    let stay = task_lists::keep_flagged(q, changed, 0);
+    let ids = task_lists::every_id(n);
+    task_lists::insert_flagged(stay, new, moved, ids)
 }
 
-// Levels as defined, and the ready order that follows them; of the queues only the owners count.
-pub fn settle(
-    t: Tasks,
-    m: Mutexes,
-    queues: [u8; QUEUES],
-    ready: TaskList,
-    woken: [u8; TASKS],
-) -> Order
-    ensures { λ r. ⌜ ((x : Queues) → x .owner ≡ queues → r ≡ orderOf t m x ready woken) ⌝ }
+// Levels as defined, and the ready order that follows them; of the queues only the owners count. Who became ready enters afterwards.
+pub fn settle(t: Tasks, m: Mutexes, queues: [u8; QUEUES], ready: TaskList) -> Order
+    ensures { λ r. ⌜ ((x : Queues) → x .owner ≡ queues → r ≡ orderOf t m x ready) ⌝ }
 {
     let old = t.level;
     let new = leads::new_levels(t, m, queues);
-    let order = resettle(ready, old, new, woken, t.n);
+    let order = resettle(ready, old, new, t.n);
     Order {
         level: new,
         ready: order,

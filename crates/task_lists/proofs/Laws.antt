@@ -11,11 +11,11 @@ use lib.Dec.{leb, eqb}
 use lib.ListN.{length, getD, set, take, drop, length-take, replicate}
 use lib.Seq.{drop-cons, take-suc-set, drop-set-lt, append-snoc, set-split}
 use Rattle.lists.specs.TestLaws.{by-test}
-use Rattle.lists.specs.Table.{pad}
-use Rattle.lists.specs.Order.{keep, firstAt, firstFrom, orElse}
+use Rattle.lists.specs.Table.{pad, filled}
+use Rattle.lists.specs.Order.{keep, range, firstAt, firstFrom, orElse}
 use Rattle.lists.specs.OrderLaws.{keep-append}
 use Rattle.rules.specs.Sizes.{levels}
-use Rattle.task_lists.specs.TaskList.{places, noId, items, taskListOf, keyOf, pushed, placeOf, idOf, inserted, insertedIf, insertedFlagged, waitsFor, bestOf}
+use Rattle.task_lists.specs.TaskList.{places, noId, items, taskListOf, keyOf, pushed, placeOf, idOf, tailed, insertedIf, insertedFlagged, waitsFor, bestOf}
 use Rattle.task_lists.specs.TaskListLaws.{items-taskListOf, push-taskListOf}
 use Rattle.task_lists.specs.declared.TaskList.{TaskList}
 use Rattle.task_lists.specs.ItemLaws.{items-step, items-end, items-take, items-few}
@@ -136,18 +136,29 @@ module _ (q : TaskList) (p : ℕ → Bool) (i : ℕ) (ids : List ℕ) (k : ℕ) 
   unfolding keep
   keep-off h e = s ∙ ap taskListOf (sym (split h ∙ rw (e, append-nil (keep p (take i (items q))))))
 
--- one more task that is tried
-module _ (q : TaskList) (keys flags : List ℕ) where
-  pub flagged-start : insertedFlagged q keys flags 0 ≡ q
+-- one more task of the order that is tried
+module _ (keys flags : List ℕ) (order : TaskList) (i : ℕ) where
+  abbrev next : ℕ
+  next = getD (order .ids) i 0
+
+  step : (q : TaskList) → i < length (items order) → insertedFlagged q keys flags (drop i (items order)) ≡ insertedFlagged (insertedIf q keys flags next) keys flags (drop (i + 1) (items order))
   unfolding insertedFlagged
-  flagged-start = refl
+  step q h = ap (insertedFlagged q keys flags) (items-step order i h)
 
-  step : (i : ℕ) → insertedFlagged q keys flags (i + 1) ≡ insertedIf (insertedFlagged q keys flags i) keys flags i
+  pub flagged-on : (q : TaskList) → i < length (items order) → keyOf flags next ≡ 1
+      → insertedFlagged q keys flags (drop i (items order)) ≡ insertedFlagged (tailed q keys next) keys flags (drop (i + 1) (items order))
+  flagged-on q h e = step q h ∙ rw (eq-eqb _ _ e)
+
+  pub flagged-off : (q : TaskList) → i < length (items order) → (keyOf flags next ≡ 1 → ⊥)
+      → insertedFlagged q keys flags (drop i (items order)) ≡ insertedFlagged q keys flags (drop (i + 1) (items order))
+  flagged-off q h e = step q h ∙ rw (ne-eqb _ _ e)
+
+  pub flagged-end : (q : TaskList) → length (items order) ≤ i → insertedFlagged q keys flags (drop i (items order)) ≡ q
   unfolding insertedFlagged
-  step i = ap (insertedFlagged q keys flags) (add-one i)
+  flagged-end q h = ap (insertedFlagged q keys flags) (items-end order i h)
 
-  pub flagged-on : (i : ℕ) → keyOf flags i ≡ 1 → insertedFlagged q keys flags (i + 1) ≡ inserted (insertedFlagged q keys flags i) keys (keyOf keys i + 1) i
-  flagged-on i e = step i ∙ rw (eq-eqb _ _ e)
-
-  pub flagged-off : (i : ℕ) → (keyOf flags i ≡ 1 → ⊥) → insertedFlagged q keys flags (i + 1) ≡ insertedFlagged q keys flags i
-  flagged-off i e = step i ∙ rw (ne-eqb _ _ e)
+-- a table that holds its places' numbers
+pub filled-range : (n : ℕ) → filled n (λ i. i) ≡ range n
+unfolding filled range
+filled-range zero = refl
+filled-range (suc n) = ap (λ (l : List ℕ). l ++ (n ∷ [])) (filled-range n)

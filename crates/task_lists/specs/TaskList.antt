@@ -2,11 +2,11 @@
 use mathlib.Core.List.{List, [], _∷_, _++_}
 use mathlib.Core.Bool.{Bool, cond}
 use mathlib.Core.Option.{Option, none, some}
-use Prim.Native.Nat.{ℕ, zero, suc, _+_, _-_, _%_}
+use Prim.Native.Nat.{ℕ, suc, _+_, _-_, _%_}
 use lib.Dec.{ltb, leb, eqb}
 use lib.ListN.{length, getD, set, take, drop}
 use Rattle.lists.specs.Test.{_and_, _or_, allb}
-use Rattle.lists.specs.Order.{keep, firstFrom}
+use Rattle.lists.specs.Order.{keep, range, firstFrom}
 use Rattle.lists.specs.Table.{pad, filled}
 use Rattle.rules.specs.Sizes.{taskPlaces, levels}
 use Rattle.task_lists.specs.declared.TaskList.{TaskList}
@@ -82,14 +82,22 @@ inserted q keys t x = insertedAt q (placeOf keys t (items q)) x
 unfoldable pub kept : TaskList → List ℕ → ℕ → TaskList
 kept q flags v = taskListOf (keep (λ y. eqb (keyOf flags y) v) (items q))
 
+-- x at the tail of its key
+abbrev pub tailed : TaskList → List ℕ → ℕ → TaskList
+tailed q keys x = inserted q keys (keyOf keys x + 1) x
+
 -- one task of `insertedFlagged`
 abbrev pub insertedIf : TaskList → List ℕ → List ℕ → ℕ → TaskList
-insertedIf q keys flags i = cond (eqb (keyOf flags i) 1) (inserted q keys (keyOf keys i + 1) i) q
+insertedIf q keys flags x = cond (eqb (keyOf flags x) 1) (tailed q keys x) q
 
--- each of the first n tasks that has a 1 in the table of flags, by id, at the tail of its key
-unfoldable pub insertedFlagged : TaskList → List ℕ → List ℕ → ℕ → TaskList
-insertedFlagged q keys flags zero = q
-insertedFlagged q keys flags (suc i) = insertedIf (insertedFlagged q keys flags i) keys flags i
+-- each of an order that has a 1 in the table of flags, in that order, at the tail of its key
+unfoldable pub insertedFlagged : TaskList → List ℕ → List ℕ → List ℕ → TaskList
+insertedFlagged q keys flags [] = q
+insertedFlagged q keys flags (x ∷ order) = insertedFlagged (insertedIf q keys flags x) keys flags order
+
+-- every id below n, ascending, as an order to go through; there are no more than places
+abbrev pub everyId : ℕ → TaskList
+everyId n = firstIds (range places) n
 
 -- the counts c, each task's raised by how often it stands in l (numbers of eight bits wrap)
 unfoldable pub counted : List ℕ → List ℕ → List ℕ

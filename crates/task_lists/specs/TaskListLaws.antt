@@ -3,7 +3,7 @@ use mathlib.Core.Path.{_≡_, refl, ap, sym, _∙_}
 use mathlib.Core.List.{List, [], _∷_, _++_}
 use mathlib.Core.Bool.{Bool, true, false, cond}
 use mathlib.Core.Logic.{inl, inr}
-use Prim.Native.Nat.{ℕ, zero, suc, _+_, _-_, _%_, _≤_, _<_}
+use Prim.Native.Nat.{ℕ, suc, _+_, _-_, _%_, _≤_, _<_}
 use native.Mathlib.Omega.{arith}
 use native.Mathlib.Numerals.{add-one}
 use native.Mathlib.Decide.{ℕ-discrete, decLt}
@@ -13,13 +13,13 @@ use lib.Seq.{getD-set-same, getD-set-other, take-at, take-append-le, drop-append
 use borrow.Author.Tests.{ltb-true, eqb-true, lt-ltb, le-ltb, eq-eqb}
 use Rattle.lists.specs.Test.{_and_, _or_, allb}
 use Rattle.lists.specs.Count.{occ}
-use Rattle.lists.specs.Order.{keep, range, byId, place, insertTail, insertHead, insertAll, inside}
+use Rattle.lists.specs.Order.{keep, range, place, insertTail, insertHead, insertAll, inside}
 use Rattle.lists.specs.Table.{pad}
 use Rattle.lists.specs.TestLaws.{which, by-test, and-l, and-r, true-and, same-test, or-true, or-l, or-r, all-true, true-all}
 use Rattle.lists.specs.CountLaws.{eqn-at, eqn-other}
-use Rattle.lists.specs.OrderLaws.{insertAll-append, keep-append, inside-places}
+use Rattle.lists.specs.OrderLaws.{take-range, inside-places}
 use Rattle.lists.specs.TableLaws.{pad-snoc, getD-filled}
-use Rattle.task_lists.specs.TaskList.{places, noId, items, taskListOf, restEmpty, usedAt, usedPlaces, idFits, idFitsAt, keyOf, pushed, placeOf, insertedAt, inserted, kept, insertedIf, insertedFlagged, counted}
+use Rattle.task_lists.specs.TaskList.{places, noId, items, taskListOf, restEmpty, usedAt, usedPlaces, idFits, idFitsAt, keyOf, pushed, placeOf, insertedAt, inserted, kept, insertedFlagged, everyId, counted}
 use Rattle.task_lists.specs.declared.TaskList.{TaskList}
 
 -- two lists are equal where their parts are
@@ -100,40 +100,30 @@ pub head-taskListOf : (keys : List ℕ) (x : ℕ) (l : List ℕ) → length l < 
 unfolding insertHead
 head-taskListOf keys x l h = insert-taskListOf keys (keyOf keys x) x l h
 
--- one more that is tried
-byId-suc : (p : ℕ → Bool) (n : ℕ) → byId (suc n) p ≡ byId n p ++ keep p (n ∷ [])
-unfolding byId range
-byId-suc p n = keep-append p (range n) (n ∷ [])
+length-tail : (f : ℕ → ℕ) (x : ℕ) (l : List ℕ) → length (insertTail f x l) ≡ suc (length l)
+unfolding insertTail
+length-tail f x l = length-place (λ y. ltb (f x) (f y)) x l
 
 pub length-insertAll : (f : ℕ → ℕ) (xs l : List ℕ) → length (insertAll f xs l) ≡ length xs + length l
-unfolding insertAll insertTail
+unfolding insertAll
 length-insertAll f [] l = omega arith
-length-insertAll f (x ∷ xs) l = omega (arith, length-insertAll f xs (insertTail f x l), length-place (λ y. ltb (f x) (f y)) x l)
+length-insertAll f (x ∷ xs) l = omega (arith, length-insertAll f xs (insertTail f x l), length-tail f x l)
 
--- one task of those that are flagged
-flagged-one : (keys flags : List ℕ) (i : ℕ) (l : List ℕ) → length l + length (keep (λ j. eqb (keyOf flags j) 1) (i ∷ [])) ≤ places
-    → insertedIf (taskListOf l) keys flags i ≡ taskListOf (insertAll (keyOf keys) (keep (λ j. eqb (keyOf flags j) 1) (i ∷ [])) l)
-unfolding keep insertAll
-flagged-one keys flags i l h = elim (which (eqb (keyOf flags i) 1)) [
-  | inl e ↦ rw e (tail-taskListOf keys i l (let g = rw e at h in omega arith))
-  | inr e ↦ rw e refl
+-- those of an order that are flagged, in that order, each at the tail of its key's run
+pub flagged-taskListOf : (keys flags order : List ℕ) (l : List ℕ) → length l + length (keep (λ i. eqb (keyOf flags i) 1) order) ≤ places
+    → insertedFlagged (taskListOf l) keys flags order ≡ taskListOf (insertAll (keyOf keys) (keep (λ i. eqb (keyOf flags i) 1) order) l)
+unfolding insertedFlagged keep insertAll
+flagged-taskListOf keys flags [] l h = refl
+flagged-taskListOf keys flags (x ∷ order) l h = elim (which (eqb (keyOf flags x) 1)) [
+  | inl e ↦ (let g = rw e at h in
+      rw e (ap (λ (q : TaskList). insertedFlagged q keys flags order) (tail-taskListOf keys x l (omega arith))
+      ∙ flagged-taskListOf keys flags order (insertTail (keyOf keys) x l) (omega (arith, g, length-tail (keyOf keys) x l))))
+  | inr e ↦ (let g = rw e at h in rw e (flagged-taskListOf keys flags order l g))
 ]
 
--- those that are flagged, by id, each at the tail of its key's run
-pub flagged-taskListOf : (keys flags : List ℕ) (n : ℕ) (l : List ℕ) → length l + length (byId n (λ i. eqb (keyOf flags i) 1)) ≤ places
-    → insertedFlagged (taskListOf l) keys flags n ≡ taskListOf (insertAll (keyOf keys) (byId n (λ i. eqb (keyOf flags i) 1)) l)
-unfolding insertedFlagged byId range keep insertAll
-flagged-taskListOf keys flags zero l h = refl
-flagged-taskListOf keys flags (suc n) l h =
-    ap (λ (q : TaskList). insertedIf q keys flags n) (flagged-taskListOf keys flags n l (omega (arith, size)))
-    ∙ flagged-one keys flags n (insertAll (keyOf keys) (byId n p) l) (omega (arith, size, length-insertAll (keyOf keys) (byId n p) l))
-    ∙ sym (ap taskListOf (ap (λ (s : List ℕ). insertAll (keyOf keys) s l) (byId-suc p n) ∙ insertAll-append (keyOf keys) (byId n p) (keep p (n ∷ [])) l))
-  where
-    p : ℕ → Bool
-    p i = eqb (keyOf flags i) 1
-
-    size : length (byId (suc n) p) ≡ length (byId n p) + length (keep p (n ∷ []))
-    size = ap length (byId-suc p n) ∙ length-append (byId n p) (keep p (n ∷ []))
+-- every id of so many tasks is by number
+pub every-id : (n : ℕ) → n ≤ places → items (everyId n) ≡ range n
+every-id n h = take-range places n h
 
 -- those whose number is v
 pub kept-taskListOf : (flags : List ℕ) (v : ℕ) (l : List ℕ) → kept (taskListOf l) flags v ≡ taskListOf (keep (λ y. eqb (keyOf flags y) v) l)

@@ -3,7 +3,7 @@ ghost use mathlib.Core.Path.{_≡_};
 ghost use Prim.Native.Nat.{_≤_, _<_};
 ghost use lib.ListN.{length, take};
 ghost use Rattle.lists.specs.Order.{keep};
-ghost use Rattle.task_lists.specs.TaskList.{places, items, firstIds, keyOf, pushed, placeOf, opened, inserted, kept, taskListOf, insertedFlagged, bestOf, waitsFor};
+ghost use Rattle.task_lists.specs.TaskList.{places, items, firstIds, keyOf, pushed, placeOf, opened, inserted, kept, taskListOf, tailed, insertedFlagged, everyId, bestOf, waitsFor};
 
 // How many places a list has.
 pub const PLACES: usize = 16;
@@ -120,6 +120,14 @@ pub fn insert(q: TaskList, keys: [u8; PLACES], t: u16, id: u8) -> TaskList
     TaskList { ids: ids, n: n }
 }
 
+// The list with `id` at the tail of its key; a full one stays.
+pub fn insert_tail(q: TaskList, keys: [u8; PLACES], id: u8) -> TaskList
+    ensures { λ r. ⌜ r ≡ tailed q keys id ⌝ }
+{
+    let t = key_in(&keys, id) as u16 + 1;
+    insert(q, keys, t, id)
+}
+
 // The list of those whose flag is `v`, in their order. The kept ids go into a table of their own, so that no list is moved in the loop.
 pub fn keep_flagged(q: TaskList, flags: [u8; PLACES], v: u8) -> TaskList
     ensures { λ r. ⌜ r ≡ kept q flags v ⌝ }
@@ -140,19 +148,37 @@ pub fn keep_flagged(q: TaskList, flags: [u8; PLACES], v: u8) -> TaskList
     }
 }
 
-// The list with each of the first `n` tasks whose flag is 1, by id, at the tail of its key. They go into one table in place, so that no list is moved in the loop.
-pub fn insert_flagged(q: TaskList, keys: [u8; PLACES], flags: [u8; PLACES], n: u8) -> TaskList
-    ensures { λ r. ⌜ r ≡ insertedFlagged q keys flags n ⌝ }
+// The list with each task of `order` whose flag is 1, in that order, at the tail of its key: one pass over the order. They go into one table in place, so that no list is moved in the loop.
+pub fn insert_flagged(
+    q: TaskList,
+    keys: [u8; PLACES],
+    flags: [u8; PLACES],
+    order: TaskList,
+) -> TaskList
+    ensures { λ r. ⌜ r ≡ insertedFlagged q keys flags (items order) ⌝ }
 {
+    let n = len(order);
     let mut ids = q.ids;
     let mut k = q.n;
-    for id in 0..n {
+    for i in 0..n {
+        let id = order.ids[i];
         if key_in(&flags, id) == 1 {
             let t = key_in(&keys, id) as u16 + 1;
             k = insert_in(&mut ids, k, &keys, t, id);
         }
     }
     TaskList { ids: ids, n: k }
+}
+
+// Every id below `n`, ascending: an order to go through, not one to keep, since what stands behind the first `n` is not NONE.
+pub fn every_id(n: u8) -> TaskList
+    ensures { λ r. ⌜ r ≡ everyId n ⌝ }
+{
+    let mut ids = [0u8; PLACES];
+    for i in 0..PLACES as u8 {
+        ids[i as usize] = i;
+    }
+    TaskList { ids: ids, n: n }
 }
 
 // The best waiter for an object: the first found going through the levels and, in a level, oldest wait first; NONE where nobody waits.

@@ -53,16 +53,18 @@ pub fn tick(mut s: State) -> Plan
     }
     let t = s.tasks;
     let mut tasks = waits::end_where(t, flags, GRANTED, TIMED_OUT);
-    s.waiting = task_lists::keep_flagged(s.waiting, flags, 0);
+    let waited = s.waiting;
+    s.waiting = task_lists::keep_flagged(waited, flags, 0);
     let mutexes = s.mutexes;
     let queues = s.queues;
     let receivers = queues.owner;
-    let q = s.ready;
-    let order = settle::settle(tasks, mutexes, receivers, q, flags);
+    let others = s.ready;
+    let order = settle::settle(tasks, mutexes, receivers, others);
     let levels = order.level;
     tasks.level = levels;
     s.tasks = tasks;
-    let turn = settle::dispatch(s.started, order.ready, levels, s.running, s.hold);
+    let ready = task_lists::insert_flagged(order.ready, levels, flags, waited);
+    let turn = settle::dispatch(s.started, ready, levels, s.running, s.hold);
     let queue = turn.ready;
     s.ready = queue;
     s.running = turn.running;

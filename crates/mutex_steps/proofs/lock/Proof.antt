@@ -4,10 +4,8 @@ use mir.Syntax.{w8}
 use Prim.{tt}
 use borrow.Author.Tests.{eq-eqb, ne-eqb}
 use mathlib.Core.Path.{refl, ap, sym, _∙_}
-use mathlib.Core.List.{List}
 use Prim.Native.Nat.{ℕ}
-use lib.ListN.{replicate}
-use Rattle.rules.specs.Sizes.{taskPlaces, onMutex}
+use Rattle.rules.specs.Sizes.{onMutex}
 use Rattle.task_lists.specs.TaskList.{noId}
 use Rattle.record.specs.Setters.{putTasks, putMutexes, putWaiting, putRunning}
 use Rattle.record.specs.declared.State.{State}
@@ -106,12 +104,11 @@ returns-6 c = let a = c .before .before .before .before .before .before .before 
     let k = a .s in
     let t = c .before .before .before .before .before .before .before .before .begin-wait in
     let w = c .before .before .before .before .before .before .before .push in
-    let woken : List ℕ = replicate taskPlaces 0 in
     let waiting = putRunning (putWaiting (putTasks k (t .result)) (w .result)) noId in
     let f = c .before .before .before .before .before .before .before .before .before .before .chain in
     c .answer6 .ensures
-    ∙ ap (λ (z : State). answerIn z 1 (f .result .links)) (settled-parts waiting woken (c .before .before .before .before .before .settle .result) (c .before .before .before .dispatch .result) (c .before .before .before .before .before .settle .ensures (k .queues) refl) (c .before .before .before .dispatch .ensures)
-    ∙ ap (λ (z : State). dispatched (settled z woken)) (blocked-parts k (k .running) onMutex (a .m) (a .time) (t .result) (w .result) (t .ensures) (w .ensures)))
+    ∙ ap (λ (z : State). answerIn z 1 (f .result .links)) (settled-parts waiting (c .before .before .before .before .before .settle .result) (c .before .before .before .dispatch .result) (c .before .before .before .before .before .settle .ensures (k .queues) refl) (c .before .before .before .dispatch .ensures)
+    ∙ ap (λ (z : State). dispatched (settled z)) (blocked-parts k (k .running) onMutex (a .m) (a .time) (t .result) (w .result) (t .ensures) (w .ensures)))
     ∙ sym (waits-on k (a .m) (a .time) (c .before .before .before .before .before .before .before .before .before .before .before .before .before .before .before .before .before .before .before .before .owner-at .result) (f .result .links) (f .result .ring) (rw (← c .before .before .before .before .before .before .before .before .before .before .before .before .before .before .before .before .of-wait .ensures) (eq-eqb _ _ (c .before .before .before .before .before .before .before .before .before .before .before .before .before .before .before .if4 .left))) (c .before .before .before .before .before .before .before .before .before .before .before .before .before .before .before .before .before .before .before .before .owner-at .ensures) (f .ensures .0) (f .ensures .1) (c .before .before .before .before .before .before .before .before .before .if5 .left))
     ∙ sym (taken-mutex k (a .m) (a .time) (rw (← c .before .before .before .before .before .before .before .before .before .before .before .before .before .before .before .before .before .before .before .before .owner-at .ensures) (ne-eqb _ _ (c .before .before .before .before .before .before .before .before .before .before .before .before .before .before .before .before .before .before .if2 .left))) (rw (← c .before .before .before .before .before .before .before .before .before .before .before .before .before .before .before .before .before .before .before .before .owner-at .ensures) (ne-eqb _ _ (c .before .before .before .before .before .before .before .before .before .before .before .before .before .before .before .before .before .if3 .left))))
     ∙ sym (lock-passed k (a .m) (a .time) (rw (← c .before .before .before .before .before .before .before .before .before .before .before .before .before .before .before .before .before .before .before .before .before .before .before .of-timed .ensures .0) (eq-eqb _ _ (c .before .before .before .before .before .before .before .before .before .before .before .before .before .before .before .before .before .before .before .before .before .before .if1 .left))))

@@ -8,8 +8,8 @@ use Rattle.rules.specs.Sizes.{granted}
 use Rattle.record.specs.Setters.{putTasks, putMutexes, putWaiting}
 use Rattle.record.specs.declared.State.{State}
 use Rattle.record.specs.declared.Mutexes.{Mutexes}
-use Rattle.machine.specs.Machine.{ownerSet, answerIn, settled, dispatched, woke, calledBy, unlockStep}
-use Rattle.machine.specs.PartLaws.{settled-parts, woken-parts}
+use Rattle.machine.specs.Machine.{ownerSet, answerIn, settled, dispatched, woke, entered, calledBy, unlockStep}
+use Rattle.machine.specs.PartLaws.{entered-parts, woken-parts}
 use Rattle.mutex_steps.proofs.Laws.{frees, passes}
 use Rattle.mutex_steps.proofs.unlock.Statement.{statement}
 use Rattle.mutex_steps.proofs.unlock.Tie as tie
@@ -77,6 +77,9 @@ keep-flagged-requires c κs = search needs
 settle-requires : tie.Need-settle-requires
 settle-requires c κs = search needs
 
+insert-tail-requires : tie.Need-insert-tail-requires
+insert-tail-requires c κs = search needs
+
 dispatch-requires : tie.Need-dispatch-requires
 dispatch-requires c κs = search needs
 
@@ -85,20 +88,21 @@ answer-requires-5 c κs = search needs
 
 returns-5 : tie.Need-returns-5
 returns-5 c =
-    let a = c .before .before .before .before .before .before .before .before .before .before .before .before .before .before .before .before .before .before .before .before .before .before .args in
+    let a = c .before .before .before .before .before .before .before .before .before .before .before .before .before .before .before .before .before .before .before .before .before .before .before .args in
     let k = a .s in
-    let best = c .before .before .before .before .before .before .before .before .before .before .before .before .before .before .best-for in
+    let best = c .before .before .before .before .before .before .before .before .before .before .before .before .before .before .before .best-for in
     let w = best .result in
-    let flags = c .before .before .before .before .before .before .before .before .before .before .before .only in
-    let m = c .before .before .before .before .before .before .before .before .before .before .before .before .before .set-owner in
-    let t = c .before .before .before .before .before .before .before .before .before .end-where in
-    let q = c .before .before .before .before .before .before .before .before .keep-flagged in
+    let flags = c .before .before .before .before .before .before .before .before .before .before .before .before .only in
+    let m = c .before .before .before .before .before .before .before .before .before .before .before .before .before .before .set-owner in
+    let t = c .before .before .before .before .before .before .before .before .before .before .end-where in
+    let q = c .before .before .before .before .before .before .before .before .before .keep-flagged in
     let woken = putWaiting (putTasks (putMutexes k (m .result)) (t .result)) (q .result) in
     c .answer5 .ensures
-    ∙ ap (λ (z : State). answerIn z 0 0) (settled-parts woken (flags .result) (c .before .before .before .before .settle .result) (c .before .before .dispatch .result) (c .before .before .before .before .settle .ensures (k .queues) refl) (c .before .before .dispatch .ensures)
-    ∙ ap (λ (z : State). dispatched (settled z (flags .result))) (woken-parts k (flags .result) granted granted (m .result) (ownerSet (k .mutexes) (a .m) w) (t .result) (q .result) (m .ensures) (t .ensures) (q .ensures))
-    ∙ ap (λ (f : List ℕ). dispatched (settled (putMutexes (woke k f granted granted) (ownerSet (k .mutexes) (a .m) w)) f)) (flags .ensures))
-    ∙ sym (passes k (a .m) (rw (← c .before .before .before .before .before .before .before .before .before .before .before .before .before .before .before .before .before .before .before .before .before .of-caller .ensures) (eq-eqb _ _ (c .before .before .before .before .before .before .before .before .before .before .before .before .before .before .before .before .before .before .before .before .if1 .left))) (lt-leb _ _ (c .before .before .before .before .before .before .before .before .before .before .before .before .before .before .before .before .before .before .if2 .left)) (rw (← c .before .before .before .before .before .before .before .before .before .before .before .before .before .before .before .before .before .owner-at .ensures) (eq-eqb _ _ (c .before .before .before .before .before .before .before .before .before .before .before .before .before .before .before .if3 .left))) w (best .ensures) (ne-eqb _ _ (c .before .before .before .before .before .before .before .before .before .before .before .before .if4 .left)))
+    ∙ ap (λ (z : State). answerIn z 0 0) (entered-parts woken w (c .before .before .before .before .before .settle .result) (c .before .before .before .insert-tail .result) (c .before .before .dispatch .result) (c .before .before .before .before .before .settle .ensures (k .queues) refl) (c .before .before .before .insert-tail .ensures) (c .before .before .dispatch .ensures)
+    ∙ ap (λ (z : State). dispatched (entered (settled (putMutexes z (m .result))) w)) (woken-parts k (flags .result) granted granted (t .result) (q .result) (t .ensures) (q .ensures))
+    ∙ ap (λ (n : Mutexes). dispatched (entered (settled (putMutexes (woke k (flags .result) granted granted) n)) w)) (m .ensures)
+    ∙ ap (λ (f : List ℕ). dispatched (entered (settled (putMutexes (woke k f granted granted) (ownerSet (k .mutexes) (a .m) w))) w)) (flags .ensures))
+    ∙ sym (passes k (a .m) (rw (← c .before .before .before .before .before .before .before .before .before .before .before .before .before .before .before .before .before .before .before .before .before .before .of-caller .ensures) (eq-eqb _ _ (c .before .before .before .before .before .before .before .before .before .before .before .before .before .before .before .before .before .before .before .before .before .if1 .left))) (lt-leb _ _ (c .before .before .before .before .before .before .before .before .before .before .before .before .before .before .before .before .before .before .before .if2 .left)) (rw (← c .before .before .before .before .before .before .before .before .before .before .before .before .before .before .before .before .before .before .owner-at .ensures) (eq-eqb _ _ (c .before .before .before .before .before .before .before .before .before .before .before .before .before .before .before .before .if3 .left))) w (best .ensures) (ne-eqb _ _ (c .before .before .before .before .before .before .before .before .before .before .before .before .before .if4 .left)))
 
 pub unlock-spec : {M : Type 1} → statement M
 unlock-spec =
@@ -122,6 +126,7 @@ unlock-spec =
     end-where-requires
     keep-flagged-requires
     settle-requires
+    insert-tail-requires
     dispatch-requires
     answer-requires-5
     returns-5)

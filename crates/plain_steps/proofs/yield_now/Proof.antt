@@ -1,7 +1,7 @@
 -- `plain_steps::yield_now` meets its contract.
 use borrow.Author.Needs.{needs}
 use borrow.Author.Tests.{eq-eqb, ne-eqb}
-use Rattle.machine.specs.Machine.{calledBy, dispatched, yieldStep}
+use Rattle.machine.specs.Machine.{calledBy, dispatched, entered, yieldStep}
 use Rattle.plain_steps.proofs.yield_now.Statement.{statement}
 use Rattle.plain_steps.proofs.yield_now.Tie as tie
 
@@ -22,17 +22,8 @@ returns-2 : tie.Need-returns-2
 unfolding yieldStep calledBy
 returns-2 c = simp (c .answer2 .ensures, ne-eqb _ _ (c .before .if2 .taken), ← c .before .before .before .before .of-caller .ensures, eq-eqb _ _ (c .before .before .before .if1 .left))
 
-key-of-requires : tie.Need-key-of-requires
-key-of-requires c κs = search needs
-
-cast-level : tie.Need-cast-level
-cast-level c = search needs
-
-add-insert : tie.Need-add-insert
-add-insert c = search needs
-
-insert-requires : tie.Need-insert-requires
-insert-requires c κs = search needs
+insert-tail-requires : tie.Need-insert-tail-requires
+insert-tail-requires c κs = search needs
 
 dispatch-requires : tie.Need-dispatch-requires
 dispatch-requires c κs = search needs
@@ -41,8 +32,8 @@ answer-requires-3 : tie.Need-answer-requires-3
 answer-requires-3 c κs = search needs
 
 returns-3 : tie.Need-returns-3
-unfolding yieldStep calledBy dispatched
-returns-3 c = simp (c .answer3 .ensures, c .before .before .dispatch .ensures, c .before .before .before .insert .ensures, c .before .before .before .before .key-of .ensures, eq-eqb _ _ (c .before .before .before .before .before .before .before .if2 .left), ← c .before .before .before .before .before .before .before .before .before .before .of-caller .ensures, eq-eqb _ _ (c .before .before .before .before .before .before .before .before .before .if1 .left))
+unfolding yieldStep calledBy dispatched entered
+returns-3 c = simp (c .answer3 .ensures, c .before .before .dispatch .ensures, c .before .before .before .insert-tail .ensures, eq-eqb _ _ (c .before .before .before .before .before .before .if2 .left), ← c .before .before .before .before .before .before .before .before .before .of-caller .ensures, eq-eqb _ _ (c .before .before .before .before .before .before .before .before .if1 .left))
 
 pub yield-now-spec : {M : Type 1} → statement M
 yield-now-spec =
@@ -53,10 +44,7 @@ yield-now-spec =
     returns
     answer-requires-2
     returns-2
-    key-of-requires
-    cast-level
-    add-insert
-    insert-requires
+    insert-tail-requires
     dispatch-requires
     answer-requires-3
     returns-3)

@@ -2,7 +2,7 @@
 use borrow.Author.Needs.{needs}
 use native.Mathlib.Omega.{arith}
 use borrow.Author.Tests.{eq-eqb, ne-eqb}
-use Rattle.machine.specs.Machine.{dispatched, lined, woke, delivered}
+use Rattle.machine.specs.Machine.{dispatched, woke, entered, delivered}
 use Rattle.queue_steps.proofs.deliver.Statement.{statement}
 use Rattle.queue_steps.proofs.deliver.Tie as tie
 
@@ -37,8 +37,8 @@ end-where-requires c κs = search needs
 keep-flagged-requires : tie.Need-keep-flagged-requires
 keep-flagged-requires c κs = search needs
 
-insert-flagged-requires : tie.Need-insert-flagged-requires
-insert-flagged-requires c κs = search needs
+insert-tail-requires : tie.Need-insert-tail-requires
+insert-tail-requires c κs = search needs
 
 dispatch-requires : tie.Need-dispatch-requires
 dispatch-requires c κs = search needs
@@ -47,8 +47,8 @@ moving-requires-2 : tie.Need-moving-requires-2
 moving-requires-2 c κs = search needs
 
 returns-2 : tie.Need-returns-2
-unfolding delivered dispatched lined woke
-returns-2 c = simp (c .moving2 .ensures, c .before .before .dispatch .ensures, c .before .before .before .insert-flagged .ensures, c .before .before .before .before .before .keep-flagged .ensures, c .before .before .before .before .before .before .end-where .ensures, c .before .before .before .before .before .before .before .before .only .ensures, ← c .before .before .before .before .before .before .before .before .before .before .best-for .ensures, ne-eqb _ _ (c .before .before .before .before .before .before .before .before .before .if1 .left))
+unfolding delivered dispatched entered woke
+returns-2 c = simp (c .moving2 .ensures, c .before .before .dispatch .ensures, c .before .before .before .insert-tail .ensures, c .before .before .before .before .before .keep-flagged .ensures, c .before .before .before .before .before .before .end-where .ensures, c .before .before .before .before .before .before .before .before .only .ensures, ← c .before .before .before .before .before .before .before .before .before .before .best-for .ensures, ne-eqb _ _ (c .before .before .before .before .before .before .before .before .before .if1 .left))
 
 pub deliver-spec : {M : Type 1} → statement M
 deliver-spec =
@@ -64,7 +64,7 @@ deliver-spec =
     only-requires
     end-where-requires
     keep-flagged-requires
-    insert-flagged-requires
+    insert-tail-requires
     dispatch-requires
     moving-requires-2
     returns-2)

@@ -7,7 +7,8 @@ use Rattle.record.specs.Setters.{putTasks, putQueues, putWaiting}
 use Rattle.record.specs.declared.State.{State}
 use native.Mathlib.Omega.{arith}
 use Rattle.machine.specs.Machine.{answerMoving, takenIn}
-use Rattle.queue_steps.proofs.Laws.{woke-parts, sent-turn, passes-on}
+use Rattle.machine.specs.PartLaws.{woken-parts}
+use Rattle.queue_steps.proofs.Laws.{sent-turn, passes-on}
 use Rattle.queue_steps.proofs.take.Statement.{statement}
 use Rattle.queue_steps.proofs.take.Tie as tie
 
@@ -51,8 +52,11 @@ keep-flagged-requires c κs = search needs
 owner-at-requires : tie.Need-owner-at-requires
 owner-at-requires c κs = search needs
 
-order-with-requires : tie.Need-order-with-requires
-order-with-requires c κs = search needs
+order-behind-requires : tie.Need-order-behind-requires
+order-behind-requires c κs = search needs
+
+insert-tail-requires : tie.Need-insert-tail-requires
+insert-tail-requires c κs = search needs
 
 dispatch-requires : tie.Need-dispatch-requires
 dispatch-requires c κs = search needs
@@ -65,20 +69,20 @@ moving-requires-2 c κs = search needs
 
 returns-2 : tie.Need-returns-2
 returns-2 c =
-    let a = c .before .before .before .before .before .before .before .before .before .before .before .before .before .before .before .before .before .before .before .args in
+    let a = c .before .before .before .before .before .before .before .before .before .before .before .before .before .before .before .before .before .before .before .before .args in
     let k = a .s in
-    let x = c .before .before .before .before .before .before .before .before .before .before .before .before .before .before .before .before .set-oldest in
+    let x = c .before .before .before .before .before .before .before .before .before .before .before .before .before .before .before .before .before .set-oldest in
     let moved = putQueues k (x .result) in
-    let w = c .before .before .before .before .before .before .before .before .before .before .before .before .before .before .before .best-for in
-    let flags = c .before .before .before .before .before .before .before .before .before .before .before .before .before .only in
-    let t = c .before .before .before .before .before .before .before .before .before .before .before .end-where in
-    let l = c .before .before .before .before .before .before .before .before .before .before .keep-flagged in
+    let w = c .before .before .before .before .before .before .before .before .before .before .before .before .before .before .before .before .best-for in
+    let flags = c .before .before .before .before .before .before .before .before .before .before .before .before .before .before .only in
+    let t = c .before .before .before .before .before .before .before .before .before .before .before .before .end-where in
+    let l = c .before .before .before .before .before .before .before .before .before .before .before .keep-flagged in
     let m = c .before .swapped in
     c .moving2 .ensures
     ∙ ap (λ (z : State). answerMoving z 0 0 (m .result))
-    (sent-turn moved (a .q) (w .result) (c .before .before .before .before .before .before .before .owner-at .result) (flags .result) (putWaiting (putTasks moved (t .result)) (l .result)) (c .before .before .before .before .before .order-with .result) (c .before .before .before .dispatch .result)
-    (c .before .before .before .before .before .before .before .owner-at .ensures) (flags .ensures) (woke-parts moved (flags .result) granted granted (t .result) (l .result) (t .ensures) (l .ensures)) (c .before .before .before .before .before .order-with .ensures (x .result) refl) (c .before .before .before .dispatch .ensures))
-    ∙ passes-on k (a .q) (x .result) (c .before .before .before .before .before .before .before .before .before .before .before .before .before .before .before .before .before .next-oldest .result) (w .result) (m .result) (x .ensures) (c .before .before .before .before .before .before .before .before .before .before .before .before .before .before .before .before .before .next-oldest .ensures) (w .ensures) (m .ensures) (ne-eqb _ _ (c .before .before .before .before .before .before .before .before .before .before .before .before .before .before .if1 .left))
+    (sent-turn moved (a .q) (w .result) (c .before .before .before .before .before .before .before .before .owner-at .result) (flags .result) (putWaiting (putTasks moved (t .result)) (l .result)) (c .before .before .before .before .before .before .order-behind .result) (c .before .before .before .before .insert-tail .result) (c .before .before .before .dispatch .result)
+    (c .before .before .before .before .before .before .before .before .owner-at .ensures) (flags .ensures) (woken-parts moved (flags .result) granted granted (t .result) (l .result) (t .ensures) (l .ensures)) (c .before .before .before .before .before .before .order-behind .ensures (x .result) refl) (c .before .before .before .before .insert-tail .ensures) (c .before .before .before .dispatch .ensures))
+    ∙ passes-on k (a .q) (x .result) (c .before .before .before .before .before .before .before .before .before .before .before .before .before .before .before .before .before .before .next-oldest .result) (w .result) (m .result) (x .ensures) (c .before .before .before .before .before .before .before .before .before .before .before .before .before .before .before .before .before .before .next-oldest .ensures) (w .ensures) (m .ensures) (ne-eqb _ _ (c .before .before .before .before .before .before .before .before .before .before .before .before .before .before .before .if1 .left))
 
 pub take-spec : {M : Type 1} → statement M
 take-spec =
@@ -97,7 +101,8 @@ take-spec =
     end-where-requires
     keep-flagged-requires
     owner-at-requires
-    order-with-requires
+    order-behind-requires
+    insert-tail-requires
     dispatch-requires
     swapped-requires
     moving-requires-2

@@ -1,7 +1,7 @@
 -- `semaphore_steps::flush` meets its contract.
 use borrow.Author.Needs.{needs}
 use borrow.Author.Tests.{eq-eqb, le-leb, lt-leb, ne-eqb}
-use Rattle.machine.specs.Machine.{dispatched, lined, woke, flushStep}
+use Rattle.machine.specs.Machine.{dispatched, woke, allEntered, flushStep}
 use Rattle.semaphore_steps.proofs.flush.Statement.{statement}
 use Rattle.semaphore_steps.proofs.flush.Tie as tie
 
@@ -44,8 +44,8 @@ answer-requires-3 : tie.Need-answer-requires-3
 answer-requires-3 c κs = search needs
 
 returns-3 : tie.Need-returns-3
-unfolding flushStep dispatched lined woke
-returns-3 c = simp (c .answer3 .ensures, c .before .before .dispatch .ensures, c .before .before .before .insert-flagged .ensures, c .before .before .before .before .before .keep-flagged .ensures, c .before .before .before .before .before .before .end-where .ensures, c .before .before .before .before .before .before .before .before .waiter-flags .ensures, lt-leb _ _ (c .before .before .before .before .before .before .before .before .before .if2 .left), ne-eqb _ _ (c .before .before .before .before .before .before .before .before .before .before .before .if1 .left))
+unfolding flushStep dispatched allEntered woke
+returns-3 c = simp (c .answer3 .ensures, c .before .before .dispatch .ensures, c .before .before .before .insert-flagged .ensures, c .before .before .before .before .before .keep-flagged .ensures, c .before .before .before .before .before .before .before .end-where .ensures, c .before .before .before .before .before .before .before .before .before .waiter-flags .ensures, lt-leb _ _ (c .before .before .before .before .before .before .before .before .before .before .if2 .left), ne-eqb _ _ (c .before .before .before .before .before .before .before .before .before .before .before .before .if1 .left))
 
 pub flush-spec : {M : Type 1} → statement M
 flush-spec =

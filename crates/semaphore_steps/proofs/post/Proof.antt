@@ -1,7 +1,7 @@
 -- `semaphore_steps::post` meets its contract.
 use borrow.Author.Needs.{needs}
 use borrow.Author.Tests.{eq-eqb, le-leb, lt-leb, ne-eqb}
-use Rattle.machine.specs.Machine.{dispatched, lined, woke, creditStep, postStep}
+use Rattle.machine.specs.Machine.{dispatched, woke, entered, creditStep, postStep}
 use Rattle.semaphore_steps.proofs.post.Statement.{statement}
 use Rattle.semaphore_steps.proofs.post.Tie as tie
 
@@ -63,8 +63,8 @@ end-where-requires c κs = search needs
 keep-flagged-requires : tie.Need-keep-flagged-requires
 keep-flagged-requires c κs = search needs
 
-insert-flagged-requires : tie.Need-insert-flagged-requires
-insert-flagged-requires c κs = search needs
+insert-tail-requires : tie.Need-insert-tail-requires
+insert-tail-requires c κs = search needs
 
 dispatch-requires : tie.Need-dispatch-requires
 dispatch-requires c κs = search needs
@@ -73,8 +73,8 @@ answer-requires-5 : tie.Need-answer-requires-5
 answer-requires-5 c κs = search needs
 
 returns-5 : tie.Need-returns-5
-unfolding postStep creditStep dispatched lined woke
-returns-5 c = simp (c .answer5 .ensures, c .before .before .dispatch .ensures, c .before .before .before .insert-flagged .ensures, c .before .before .before .before .before .keep-flagged .ensures, c .before .before .before .before .before .before .end-where .ensures, c .before .before .before .before .before .before .before .before .only .ensures, ← c .before .before .before .before .before .before .before .before .before .before .best-for .ensures, ne-eqb _ _ (c .before .before .before .before .before .before .before .before .before .if3 .left), lt-leb _ _ (c .before .before .before .before .before .before .before .before .before .before .before .if2 .left), ne-eqb _ _ (c .before .before .before .before .before .before .before .before .before .before .before .before .before .if1 .left))
+unfolding postStep creditStep dispatched entered woke
+returns-5 c = simp (c .answer5 .ensures, c .before .before .dispatch .ensures, c .before .before .before .insert-tail .ensures, c .before .before .before .before .before .keep-flagged .ensures, c .before .before .before .before .before .before .end-where .ensures, c .before .before .before .before .before .before .before .before .only .ensures, ← c .before .before .before .before .before .before .before .before .before .before .best-for .ensures, ne-eqb _ _ (c .before .before .before .before .before .before .before .before .before .if3 .left), lt-leb _ _ (c .before .before .before .before .before .before .before .before .before .before .before .if2 .left), ne-eqb _ _ (c .before .before .before .before .before .before .before .before .before .before .before .before .before .if1 .left))
 
 pub post-spec : {M : Type 1} → statement M
 post-spec =
@@ -98,7 +98,7 @@ post-spec =
     only-requires
     end-where-requires
     keep-flagged-requires
-    insert-flagged-requires
+    insert-tail-requires
     dispatch-requires
     answer-requires-5
     returns-5)

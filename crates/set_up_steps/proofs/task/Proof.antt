@@ -1,7 +1,7 @@
 -- `set_up_steps::task` meets its contract.
 use borrow.Author.Needs.{needs}
 use borrow.Author.Tests.{eq-eqb, le-leb, lt-leb, ne-eqb}
-use Rattle.machine.specs.Machine.{taskStep}
+use Rattle.machine.specs.Machine.{entered, taskStep}
 use Rattle.set_up_steps.proofs.task.Statement.{statement}
 use Rattle.set_up_steps.proofs.task.Tie as tie
 
@@ -35,14 +35,8 @@ cast-p c = search needs
 add-task-requires : tie.Need-add-task-requires
 add-task-requires c κs = search needs
 
-cast-insert : tie.Need-cast-insert
-cast-insert c = search needs
-
-add-insert : tie.Need-add-insert
-add-insert c = search needs
-
-insert-requires : tie.Need-insert-requires
-insert-requires c κs = search needs
+insert-tail-requires : tie.Need-insert-tail-requires
+insert-tail-requires c κs = search needs
 
 cast-answer : tie.Need-cast-answer
 cast-answer c = search needs
@@ -51,8 +45,8 @@ answer-requires-4 : tie.Need-answer-requires-4
 answer-requires-4 c κs = search needs
 
 returns-4 : tie.Need-returns-4
-unfolding taskStep
-returns-4 c = simp (c .answer4 .ensures, c .before .insert .ensures, c .before .before .before .add-task .ensures, lt-leb _ _ (c .before .before .before .before .if3 .left), lt-leb _ _ (c .before .before .before .before .before .if2 .left), eq-eqb _ _ (c .before .before .before .before .before .before .if1 .left))
+unfolding taskStep entered
+returns-4 c = simp (c .answer4 .ensures, c .before .insert-tail .ensures, c .before .before .before .add-task .ensures, lt-leb _ _ (c .before .before .before .before .if3 .left), lt-leb _ _ (c .before .before .before .before .before .if2 .left), eq-eqb _ _ (c .before .before .before .before .before .before .if1 .left))
 
 pub task-spec : {M : Type 1} → statement M
 task-spec =
@@ -67,9 +61,7 @@ task-spec =
     returns-3
     cast-p
     add-task-requires
-    cast-insert
-    add-insert
-    insert-requires
+    insert-tail-requires
     cast-answer
     answer-requires-4
     returns-4)

@@ -1,24 +1,34 @@
--- `task_lists::insert_flagged` meets its contract. The loop: the table and its count are the list in which the tasks passed are tried.
+-- `task_lists::insert_flagged` meets its contract. The loop: the table and its count, with the tasks of the order still to come tried, are the whole list.
 use borrow.Author.Needs.{needs}
-use mathlib.Core.Path.{_≡_, sym, _∙_}
+use mathlib.Core.Path.{_≡_, refl, sym, _∙_}
 use mathlib.Core.Logic.{⊎-elim}
-use Prim.Native.Nat.{_-_, _≤_}
+use Prim.Native.Nat.{_-_, _≤_, _<_}
 use native.Mathlib.Omega.{arith}
-use lib.ListN.{length}
-use Rattle.task_lists.specs.TaskList.{places, firstIds, insertedFlagged}
-use Rattle.task_lists.proofs.Laws.{flagged-start, flagged-on, flagged-off}
+use lib.ListN.{length, drop}
+use Rattle.task_lists.specs.TaskList.{places, items, firstIds, insertedFlagged}
+use Rattle.task_lists.specs.ItemLaws.{items-few}
+use Rattle.task_lists.proofs.Laws.{flagged-on, flagged-off, flagged-end}
 use Rattle.task_lists.proofs.insert_flagged.Statement.{statement}
 use Rattle.task_lists.proofs.insert_flagged.Tie as tie
 
 abbrev Inv-loop : tie.InvT-loop
-Inv-loop n keys flags ids₀ k₀ id₀ ids k id =
-    (id ≤ n) × (length ids ≡ places) × (firstIds ids k ≡ insertedFlagged (firstIds ids₀ k₀) keys flags id)
+Inv-loop keys flags order n ids₀ k₀ i₀ ids k i =
+    (i ≤ n) × (length ids ≡ places) × (insertedFlagged (firstIds ids k) keys flags (drop i (items order)) ≡ insertedFlagged (firstIds ids₀ k₀) keys flags (items order))
 
 abbrev μ-loop : tie.MeasureT-loop
-μ-loop n keys flags ids₀ k₀ id₀ ids k id = n - id
+μ-loop keys flags order n ids₀ k₀ i₀ ids k i = n - i
+
+len-requires : tie.Need-len-requires Inv-loop μ-loop
+len-requires c κs = search needs
 
 loop-holds : tie.Need-loop-holds Inv-loop μ-loop
-loop-holds c = (search needs, search needs, sym (flagged-start _ _ _))
+loop-holds c = (search needs, search needs, refl)
+
+element-copy-out-id : tie.Need-element-copy-out-id Inv-loop μ-loop
+element-copy-out-id c =
+    let q = c .before .before .before .before .args .t4 in
+    let g : length (q .ids) ≡ places = search needs in
+    omega (arith, items-few q g)
 
 key-in-requires : tie.Need-key-in-requires Inv-loop μ-loop
 key-in-requires c κs = search needs
@@ -35,30 +45,32 @@ add-t c = search needs
 insert-in-requires : tie.Need-insert-in-requires Inv-loop μ-loop
 insert-in-requires c κs = search needs
 
-add-id : tie.Need-add-id Inv-loop μ-loop
-add-id c = search needs
+add-i : tie.Need-add-i Inv-loop μ-loop
+add-i c = search needs
 
 loop-less : tie.Need-loop-less Inv-loop μ-loop
 loop-less c = search needs
 
 loop-again : tie.Need-loop-again Inv-loop μ-loop
 loop-again c =
-    let a = c .before .before .before .before .before .before .args in
-    let l = c .before .before .before .before .loop in
+    let a = c .before .before .before .before .before .before .before .before .args in
+    let l = c .before .before .before .before .before .loop in
+    let h : l .i < length (items (a .t4)) = omega arith in
     let k = c .before .key-in .ensures in
     ⊎-elim
     (λ w.
-    let f = flagged-on (a .q) (a .t2) (a .t3) (l .id) (sym k ∙ w .0 .taken) in
-    (search needs, rw (w .6) (w .5 .ensures .0), rw (w .6, w .7) (w .5 .ensures .1 ∙ rw (f, w .2 .ensures, l .inv .2))))
+    let f = flagged-on (a .t2) (a .t3) (a .t4) (l .i) (firstIds (l .ids) (l .k)) h (sym k ∙ w .0 .taken) in
+    (search needs, rw (w .6) (w .5 .ensures .0), rw (w .6, w .7, w .5 .ensures .1, w .2 .ensures) (sym f ∙ l .inv .2)))
     (λ w.
-    let f = flagged-off (a .q) (a .t2) (a .t3) (l .id) (λ e. w .0 .left (k ∙ e)) in
-    (search needs, rw (w .1) (l .inv .1), rw (w .1, w .2) (l .inv .2 ∙ sym f)))
+    let f = flagged-off (a .t2) (a .t3) (a .t4) (l .i) (firstIds (l .ids) (l .k)) h (λ e. w .0 .left (k ∙ e)) in
+    (search needs, rw (w .1) (l .inv .1), rw (w .1, w .2) (sym f ∙ l .inv .2)))
     (c .if1 .came)
 
 returns : tie.Need-returns Inv-loop μ-loop
 returns c =
-    let e : c .before .loop .id ≡ c .before .before .before .args .n = omega arith in
-    rw e at (c .before .loop .inv .2)
+    let a = c .before .before .before .before .args in
+    let l = c .before .loop in
+    sym (flagged-end (a .t2) (a .t3) (a .t4) (l .i) (firstIds (l .ids) (l .k)) (omega arith)) ∙ l .inv .2
 
 pub insert-flagged-spec : {M : Type 1} → statement M
 insert-flagged-spec =
@@ -66,13 +78,15 @@ insert-flagged-spec =
     (tie.spec
     Inv-loop
     μ-loop
+    len-requires
     loop-holds
+    element-copy-out-id
     key-in-requires
     key-in-requires-2
     cast-t
     add-t
     insert-in-requires
-    add-id
+    add-i
     loop-less
     loop-again
     returns)

@@ -1,8 +1,13 @@
 -- `time_steps::tick` meets its contract.
 use borrow.Author.Needs.{needs}
 use borrow.Author.Tests.{eq-eqb, ne-eqb, not-true, not-false}
-use mathlib.Core.Path.{refl}
-use Rattle.machine.specs.Machine.{settled, dispatched, woke, tickStep}
+use mathlib.Core.Path.{refl, ap, sym, _∙_}
+use Rattle.rules.specs.Sizes.{granted, timedOut}
+use Rattle.record.specs.Setters.{putTasks, putClock, putWaiting}
+use Rattle.record.specs.declared.State.{State}
+use Rattle.machine.specs.Machine.{settled, dispatched, allEntered, answerIn, tickStep}
+use Rattle.machine.specs.PartLaws.{all-entered-parts, woken-parts}
+use Rattle.time_steps.proofs.Laws.{waits-end}
 use Rattle.time_steps.proofs.tick.Statement.{statement}
 use Rattle.time_steps.proofs.tick.Tie as tie
 
@@ -38,6 +43,9 @@ keep-flagged-requires c κs = search needs
 settle-requires : tie.Need-settle-requires
 settle-requires c κs = search needs
 
+insert-flagged-requires : tie.Need-insert-flagged-requires
+insert-flagged-requires c κs = search needs
+
 dispatch-requires : tie.Need-dispatch-requires
 dispatch-requires c κs = search needs
 
@@ -45,8 +53,21 @@ answer-requires-3 : tie.Need-answer-requires-3
 answer-requires-3 c κs = search needs
 
 returns-3 : tie.Need-returns-3
-unfolding tickStep dispatched settled woke
-returns-3 c = simp (c .answer3 .ensures, c .before .before .dispatch .ensures, c .before .before .before .before .settle .ensures (c .before .before .before .before .before .before .before .before .before .before .before .before .before .before .before .before .before .before .args .s .queues) refl, c .before .before .before .before .before .before .before .before .before .keep-flagged .ensures, c .before .before .before .before .before .before .before .before .before .before .end-where .ensures, ← c .before .before .before .before .before .before .before .before .before .before .before .before .before .any-flag .ensures, ← c .before .before .before .before .before .before .before .before .before .before .before .before .before .before .due-flags .ensures, ← c .before .before .before .before .before .before .before .before .before .before .before .before .before .before .before .due-at .ensures, not-false (c .before .before .before .before .before .before .before .before .before .before .before .before .before .any-flag .result) (c .before .before .before .before .before .before .before .before .before .before .before .before .if2 .left), ne-eqb _ _ (c .before .before .before .before .before .before .before .before .before .before .before .before .before .before .before .before .if1 .left))
+returns-3 c =
+    let k = c .before .before .before .before .before .before .before .before .before .before .before .before .before .before .before .before .before .before .before .before .args .s in
+    let clock = c .before .before .before .before .before .before .before .before .before .before .before .before .before .before .before .before .before .due-at in
+    let flags = c .before .before .before .before .before .before .before .before .before .before .before .before .before .before .before .before .due-flags in
+    let some = c .before .before .before .before .before .before .before .before .before .before .before .before .before .before .before .any-flag in
+    let t = c .before .before .before .before .before .before .before .before .before .before .before .before .end-where in
+    let w = c .before .before .before .before .before .before .before .before .before .before .keep-flagged in
+    let o = c .before .before .before .before .before .settle in
+    let q = c .before .before .before .insert-flagged in
+    let u = c .before .before .dispatch in
+    let woken = putWaiting (putTasks (putClock k (clock .result)) (t .result)) (w .result) in
+    c .answer3 .ensures
+    ∙ ap (λ (z : State). answerIn z 0 0) (all-entered-parts woken (k .waiting) (flags .result) (o .result) (q .result) (u .result) (o .ensures (k .queues) refl) (q .ensures) (u .ensures)
+    ∙ ap (λ (z : State). dispatched (allEntered (settled (putClock z (clock .result))) (k .waiting) (flags .result))) (woken-parts k (flags .result) granted timedOut (t .result) (w .result) (t .ensures) (w .ensures)))
+    ∙ sym (waits-end k (flags .result) (clock .result) (flags .ensures) (clock .ensures) (ne-eqb _ _ (c .before .before .before .before .before .before .before .before .before .before .before .before .before .before .before .before .before .before .if1 .left)) (rw (← some .ensures) (not-false (some .result) (c .before .before .before .before .before .before .before .before .before .before .before .before .before .before .if2 .left))))
 
 pub tick-spec : {M : Type 1} → statement M
 tick-spec =
@@ -62,6 +83,7 @@ tick-spec =
     end-where-requires
     keep-flagged-requires
     settle-requires
+    insert-flagged-requires
     dispatch-requires
     answer-requires-3
     returns-3)
