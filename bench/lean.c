@@ -539,21 +539,21 @@ static uint64_t free_again(struct lean *k)
  * stand among those whose time is up. */
 static uint64_t tick(struct lean *k)
 {
-    struct lean_task *woken[CUNGKALISA_TASKS];
+    uint8_t woken[CUNGKALISA_TASKS];
     uint32_t moved = 0, n = 0;
     k->clock++;
     while (!is_alone(&k->timed) && timed_at(k->timed.next)->due == k->clock) {
         struct lean_task *t = timed_at(k->timed.next);
         struct lean_owned *behind = t->behind;
         end_wait(t, t->late);
-        woken[n++] = t;
+        woken[n++] = t->id;
         moved |= lower(k, behind, t->level);
     }
     if (!n)
         return CUNGKALISA_DONE;
     all_ready(k, moved);
     for (uint32_t i = 0; i < n; i++)
-        ready_at_tail(k, woken[i]);
+        ready_at_tail(k, &k->tasks[woken[i]]);
     dispatch(k);
     return CUNGKALISA_DONE;
 }

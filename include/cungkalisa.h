@@ -304,7 +304,8 @@ static inline uint64_t cungkalisa_post(const cungkalisa_kernel *k, uint32_t sema
     return cungkalisa_step_on(k, CUNGKALISA_STEP_POST, semaphore, 0, 0);
 }
 
-/* From a task or an interrupt: all who wait for the semaphore become ready, their waits flushed. */
+/* From a task or an interrupt: all who wait for the semaphore become ready, their waits flushed; of a level the oldest wait
+ * first. */
 static inline uint64_t cungkalisa_flush(const cungkalisa_kernel *k, uint32_t semaphore)
 {
     return cungkalisa_step_on(k, CUNGKALISA_STEP_FLUSH, semaphore, 0, 0);
@@ -334,7 +335,7 @@ static inline uint64_t cungkalisa_free(const cungkalisa_kernel *k)
     return cungkalisa_step_on(k, CUNGKALISA_STEP_FREE, 0, 0, 0);
 }
 
-/* From the timer: one tick, and the waits whose time is up end. */
+/* From the timer: one tick, and the waits whose time is up end; those tasks become ready, of a level the oldest wait first. */
 static inline uint64_t cungkalisa_tick(const cungkalisa_kernel *k)
 {
     return cungkalisa_step_on(k, CUNGKALISA_STEP_TICK, 0, 0, 0);
