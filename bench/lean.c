@@ -170,22 +170,13 @@ static uint32_t lift(struct lean *k, struct lean_owned *o, uint8_t level)
     return moved;
 }
 
-/* The level to which its owner is lifted, or CUNGKALISA_NONE. */
-static uint8_t lifts_to(struct lean_owned *o)
-{
-    if (!o->inheriting)
-        return o->ceiling;
-    const struct lean_task *best = best_waiter(&o->waiters);
-    return best ? best->level : CUNGKALISA_NONE;
-}
-
 static uint8_t level_of(struct lean_task *t)
 {
     uint8_t level = t->priority;
     for (struct lean_link *at = t->owned.next; at != &t->owned; at = at->next) {
-        uint8_t lifted = lifts_to(owned_at(at));
-        if (lifted < level)
-            level = lifted;
+        const struct lean_task *best = best_waiter(&owned_at(at)->waiters);
+        if (best && best->level < level)
+            level = best->level;
     }
     return level;
 }
@@ -207,23 +198,19 @@ static uint32_t lower(struct lean *k, struct lean_owned *o, uint8_t gone)
     return moved;
 }
 
-/* Who gets a mutex waits for nothing and stands in no list: a ceiling lifts that task alone. */
 static void own(struct lean_owned *o, struct lean_task *t)
 {
     o->owner = t;
-    if (o->inheriting || o->ceiling != CUNGKALISA_NONE)
+    if (o->inheriting)
         put_before(&t->owned, &o->held);
-    if (o->ceiling < t->level)
-        t->level = o->ceiling;
 }
 
-static void make_owned(struct lean_owned *o, uint8_t inheriting, uint8_t ceiling)
+static void make_owned(struct lean_owned *o, uint8_t inheriting)
 {
     alone(&o->waiters);
     alone(&o->held);
     o->owner = NULL;
     o->inheriting = inheriting;
-    o->ceiling = ceiling;
 }
 
 /* ---- Messages ---- */
@@ -281,14 +268,13 @@ static uint64_t make_task(struct lean *k, uint32_t priority)
     return with_value(CUNGKALISA_DONE, t->id);
 }
 
-/* A kind that has no ceiling comes with CUNGKALISA_NONE. */
-static uint64_t make_mutex(struct lean *k, uint32_t kind, uint32_t ceiling)
+static uint64_t make_mutex(struct lean *k, uint32_t kind)
 {
-    if (kind > CUNGKALISA_CEILING || (kind == CUNGKALISA_CEILING && ceiling > CUNGKALISA_LEAST_URGENT))
+    if (kind > 1)
         return CUNGKALISA_OUT_OF_RANGE;
     if (k->mutexes_made == CUNGKALISA_MUTEXES)
         return CUNGKALISA_FULL;
-    make_owned(&k->mutexes[k->mutexes_made], kind == CUNGKALISA_INHERITING, (uint8_t)ceiling);
+    make_owned(&k->mutexes[k->mutexes_made], (uint8_t)kind);
     return with_value(CUNGKALISA_DONE, k->mutexes_made++);
 }
 
@@ -313,7 +299,7 @@ static uint64_t make_queue(struct lean *k, uint32_t width, uint32_t depth, struc
     if (k->queues_made == CUNGKALISA_QUEUES || k->block_used + width * depth > block_words)
         return CUNGKALISA_FULL;
     struct lean_queue *q = &k->queues[k->queues_made];
-    make_owned(&q->room, owner != NULL, CUNGKALISA_NONE);
+    make_owned(&q->room, owner != NULL);
     if (owner)
         own(&q->room, owner);
     alone(&q->receivers);
@@ -365,37 +351,33 @@ static uint64_t lock(struct lean *k, uint32_t mutex, uint32_t time)
     if (is_no_time(time))
         return CUNGKALISA_OUT_OF_RANGE;
     struct lean_owned *m = &k->mutexes[mutex];
+    if (!m->owner) {
+        own(m, k->running);
+        return CUNGKALISA_DONE;
+    }
     if (m->owner == k->running)
         return CUNGKALISA_ALREADY_OWNED;
-    if (m->ceiling != CUNGKALISA_NONE && k->running->priority < m->ceiling)
-        return CUNGKALISA_ABOVE_CEILING;
-    if (m->owner)
-        return wait_behind(k, m, time);
-    own(m, k->running);
-    return CUNGKALISA_DONE;
+    return wait_behind(k, m, time);
 }
 
-/* An inheriting mutex leaves its new owner's level as it is: nobody who still waits is more urgent. */
+/* The new owner keeps its level: nobody who still waits is more urgent. */
 static uint64_t unlock(struct lean *k, uint32_t mutex)
 {
     if (mutex >= k->mutexes_made)
         return CUNGKALISA_NO_SUCH;
     struct lean_owned *m = &k->mutexes[mutex];
-    struct lean_task *caller = k->running;
-    if (m->owner != caller)
+    if (m->owner != k->running)
         return CUNGKALISA_NOT_OWNER;
     take_out(&m->held);
-    if (m->ceiling == caller->level)
-        caller->level = level_of(caller);
     struct lean_task *best = best_waiter(&m->waiters);
-    if (best) {
-        end_wait(best, CUNGKALISA_GRANTED);
-        lower(k, m, best->level);
-        own(m, best);
-        ready_at_tail(k, best);
-    } else {
+    if (!best) {
         m->owner = NULL;
+        return CUNGKALISA_DONE;
     }
+    end_wait(best, CUNGKALISA_GRANTED);
+    lower(k, m, best->level);
+    own(m, best);
+    ready_at_tail(k, best);
     dispatch(k);
     return CUNGKALISA_DONE;
 }
@@ -580,9 +562,8 @@ static uint64_t tick(struct lean *k)
 
 /* Bit c: the step of code c is one of set-up, is made by a running task, asks what may be asked in any phase. */
 #define OF_SET_UP                                                                                              \
-    (1u << CUNGKALISA_STEP_TASK | 1u << CUNGKALISA_STEP_MUTEX | 1u << CUNGKALISA_STEP_MUTEX_CEILING |          \
-     1u << CUNGKALISA_STEP_SEM | 1u << CUNGKALISA_STEP_START | 1u << CUNGKALISA_STEP_QUEUE |                   \
-     1u << CUNGKALISA_STEP_QUEUE_OWNED)
+    (1u << CUNGKALISA_STEP_TASK | 1u << CUNGKALISA_STEP_MUTEX | 1u << CUNGKALISA_STEP_SEM |                    \
+     1u << CUNGKALISA_STEP_START | 1u << CUNGKALISA_STEP_QUEUE | 1u << CUNGKALISA_STEP_QUEUE_OWNED)
 #define BY_A_TASK                                                                                              \
     (1u << CUNGKALISA_STEP_LOCK | 1u << CUNGKALISA_STEP_UNLOCK | 1u << CUNGKALISA_STEP_PEND |                  \
      1u << CUNGKALISA_STEP_SLEEP | 1u << CUNGKALISA_STEP_YIELD | 1u << CUNGKALISA_STEP_HOLD |                  \
@@ -618,8 +599,7 @@ static uint64_t set_up_step(struct lean *k, uint32_t code, uint32_t a, uint32_t 
         return CUNGKALISA_WRONG_PHASE;
     switch (code) {
     case CUNGKALISA_STEP_TASK: return make_task(k, a);
-    case CUNGKALISA_STEP_MUTEX: return make_mutex(k, a, CUNGKALISA_NONE);
-    case CUNGKALISA_STEP_MUTEX_CEILING: return make_mutex(k, a, b);
+    case CUNGKALISA_STEP_MUTEX: return make_mutex(k, a);
     case CUNGKALISA_STEP_SEM: return make_semaphore(k, a, b);
     case CUNGKALISA_STEP_QUEUE: return make_queue(k, a, b, NULL, block_words);
     case CUNGKALISA_STEP_QUEUE_OWNED: return make_queue_owned(k, a, b, c, block_words);
@@ -640,22 +620,16 @@ static uint64_t asked(const struct lean *k, uint32_t code, uint32_t task, uint32
     return with_value(CUNGKALISA_DONE, k->tasks[task].words[n]);
 }
 
-/* A mutex comes with a ceiling exactly if its kind asks for one. */
-static int is_no_step(uint32_t code, uint32_t kind, uint64_t count)
+static int is_no_step(uint32_t code, uint64_t count)
 {
-    switch (code) {
-    case CUNGKALISA_STEP_MUTEX: return kind == CUNGKALISA_CEILING;
-    case CUNGKALISA_STEP_MUTEX_CEILING: return kind != CUNGKALISA_CEILING;
-    case CUNGKALISA_STEP_SEND: return count == 0 || count > CUNGKALISA_WORDS;
-    default: return code > CUNGKALISA_STEP_MUTEX_CEILING;
-    }
+    return code > CUNGKALISA_STEP_WORD || (code == CUNGKALISA_STEP_SEND && (count == 0 || count > CUNGKALISA_WORDS));
 }
 
 uint64_t lean_step(struct lean *k, uint32_t code, uint32_t a, uint32_t b, uint32_t c, const uint32_t *message, uint64_t count,
                    uint32_t *block, uint64_t block_words)
 {
     uint64_t answer;
-    if (is_no_step(code, a, count))
+    if (is_no_step(code, count))
         answer = CUNGKALISA_NO_STEP;
     else if (OF_SET_UP >> code & 1)
         answer = set_up_step(k, code, a, b, c, block_words);

@@ -19,7 +19,7 @@ struct lean_link {
 struct lean_task {
     struct lean_link place;    /* among the ready ones of its level, or among those who wait for the same thing */
     struct lean_link timed;    /* among the timed waits */
-    struct lean_link owned;    /* what it owns that may lift it: it is inheriting, or has a ceiling */
+    struct lean_link owned;    /* what it owns and inherits by */
     struct lean_owned *behind; /* the mutex, or the room in a queue, that it waits for, if it does */
     uint32_t due;              /* the clock at which its timed wait ends */
     uint32_t words[CUNGKALISA_WORDS];
@@ -33,10 +33,9 @@ struct lean_task {
 /* A mutex, or the room in a queue: what may have an owner, and others wait for. */
 struct lean_owned {
     struct lean_link waiters; /* the oldest wait first */
-    struct lean_link held;    /* among what its owner owns, if it may lift it */
+    struct lean_link held;    /* among what its owner owns, if it is inheriting */
     struct lean_task *owner;
     uint8_t inheriting; /* room in a queue is, exactly if it has an owner */
-    uint8_t ceiling;    /* or CUNGKALISA_NONE, which no level reaches */
 };
 
 struct lean_semaphore {

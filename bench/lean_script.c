@@ -83,7 +83,7 @@ static const struct {
     {"flush\t\t\t", 1, 1},   {"sleep\t\t\t", 1, 1},  {"yield\t\t\t", 0, 0},   {"hold\t\t\t\t", 0, 0},
     {"free\t\t\t\t", 0, 0},  {"tick\t\t\t\t", 0, 0}, {"level\t\t\t", 1, 1},   {"outcome\t", 1, 1},
     {"queue\t\t\t", 2, 2},   {"queue\t\t\t", 3, 3},  {"send\t\t\t\t", 3, 10}, {"receive\t", 2, 2},
-    {"word\t\t\t\t", 2, 2},  {"mutex\t\t\t", 2, 2},
+    {"word\t\t\t\t", 2, 2},
 };
 
 enum { NO_STEP = sizeof steps / sizeof steps[0] };

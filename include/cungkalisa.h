@@ -46,17 +46,17 @@ extern "C" {
 #define CUNGKALISA_WORDS 8
 #define CUNGKALISA_MOST_MESSAGES 64
 
-/* Priorities, ceilings and levels go from 0, the most urgent, to this, the least urgent. */
+/* Priorities and levels go from 0, the most urgent, to this, the least urgent. */
 #define CUNGKALISA_LEAST_URGENT 31
 
-/* No task: as the task to run, as an owner, in an unused place of a task list. Also no ceiling. */
+/* No task: as the task to run, as an owner, in an unused place of a task list. */
 #define CUNGKALISA_NONE 255
 
 /* A waiting time is 0 (don't wait), 1 to CUNGKALISA_MAX_TICKS ticks, or CUNGKALISA_FOREVER. */
 #define CUNGKALISA_MAX_TICKS 2147483647u
 #define CUNGKALISA_FOREVER 4294967295u
 
-/* ---- The record: a state of 340 bytes, and behind it the words that tasks hold, 852 bytes in all, aligned as a uint32_t
+/* ---- The record: a state of 332 bytes, and behind it the words that tasks hold, 844 bytes in all, aligned as a uint32_t
  * is. Read it freely; change it by steps only. The seven bytes of the state that no field has mean nothing, and an accepted
  * step may leave anything there. ---- */
 
@@ -88,7 +88,7 @@ enum {
 typedef struct cungkalisa_tasks {
     uint32_t due[CUNGKALISA_TASKS];     /* the clock at which a timed wait ends; else 0 */
     uint8_t priority[CUNGKALISA_TASKS]; /* its own priority, as it was made */
-    uint8_t level[CUNGKALISA_TASKS];    /* how urgent it is now: inherited, by a ceiling, or its own */
+    uint8_t level[CUNGKALISA_TASKS];    /* how urgent it is now: inherited or its own */
     uint8_t outcome[CUNGKALISA_TASKS];  /* how its last wait ended, CUNGKALISA_GRANTED .. */
     uint8_t wait[CUNGKALISA_TASKS];     /* what it waits for, CUNGKALISA_NO_WAIT .. */
     uint8_t object[CUNGKALISA_TASKS];   /* the mutex, semaphore or queue that it waits for; else 0 */
@@ -102,19 +102,10 @@ typedef struct cungkalisa_semaphores {
     uint8_t n;                               /* how many semaphores there are */
 } cungkalisa_semaphores;
 
-/* What a mutex does to its owner's level. Where the owner waits in its turn for an inheriting mutex, or to send to an owned
- * queue, what lifts it is lent on to that owner, a ceiling too. */
-enum {
-    CUNGKALISA_PLAIN = 0,      /* nothing */
-    CUNGKALISA_INHERITING = 1, /* the owner inherits the levels of those who wait for it */
-    CUNGKALISA_CEILING = 2     /* the owner is at least as urgent as the ceiling; those who wait lend nothing */
-};
-
 typedef struct cungkalisa_mutexes {
-    uint8_t kind[CUNGKALISA_MUTEXES];    /* CUNGKALISA_PLAIN .. */
-    uint8_t ceiling[CUNGKALISA_MUTEXES]; /* of CUNGKALISA_CEILING 0 to 31, of other kinds CUNGKALISA_NONE */
-    uint8_t owner[CUNGKALISA_MUTEXES];   /* the task that owns it, or CUNGKALISA_NONE */
-    uint8_t n;                           /* how many mutexes there are */
+    uint8_t kind[CUNGKALISA_MUTEXES];  /* 0: plain, 1: its owner inherits the levels of those who wait for it */
+    uint8_t owner[CUNGKALISA_MUTEXES]; /* the task that owns it, or CUNGKALISA_NONE */
+    uint8_t n;                         /* how many mutexes there are */
 } cungkalisa_mutexes;
 
 /* The queues fill the block in order of id from word 0, width times depth words each. A queue's words are a ring of depth
@@ -149,13 +140,13 @@ typedef struct cungkalisa {
 } cungkalisa;
 
 /* A compiler that lays the record out in another way stops here. */
-typedef char cungkalisa_state_is_as_expected[sizeof(cungkalisa_state) == 340 ? 1 : -1];
-typedef char cungkalisa_layout_is_as_expected[sizeof(cungkalisa) == 852 ? 1 : -1];
+typedef char cungkalisa_state_is_as_expected[sizeof(cungkalisa_state) == 332 ? 1 : -1];
+typedef char cungkalisa_layout_is_as_expected[sizeof(cungkalisa) == 844 ? 1 : -1];
 
 /* ---- Answers ---- */
 
 /* The number of an answer. A step answered 0 or 1 is made; with any other number the record stays as it is. Where
- * several apply, they are given in this order: 14, 15, 4, 5, 6, 7, 8, 9, 16, 10, 3, 11, 12; then 2 and 13. */
+ * several apply, they are given in this order: 14, 15, 4, 5, 6, 7, 8, 9, 10, 3, 11, 12; then 2 and 13. */
 enum {
     CUNGKALISA_DONE = 0,          /* done */
     CUNGKALISA_WAITS = 1,         /* accepted, and the caller now waits */
@@ -164,9 +155,9 @@ enum {
     CUNGKALISA_WRONG_PHASE = 4,   /* creation or start after start; any other step but level, outcome and word before it */
     CUNGKALISA_NO_CALLER = 5,     /* a step that a running task makes, with none running */
     CUNGKALISA_NO_SUCH = 6,       /* no such task, mutex, semaphore, queue or owner */
-    CUNGKALISA_OUT_OF_RANGE = 7,  /* a priority over 31, a kind over 2, a ceiling over 31, a maximum of 0, a count over the
-                                     maximum, a time outside its range, a width other than 1, 2, 4 or 8, a depth other than
-                                     1 to 64, a message of another width than the queue's, or a word over 7 */
+    CUNGKALISA_OUT_OF_RANGE = 7,  /* a priority over 31, a kind over 1, a maximum of 0, a count over the maximum, a time
+                                     outside its range, a width other than 1, 2, 4 or 8, a depth other than 1 to 64, a
+                                     message of another width than the queue's, or a word over 7 */
     CUNGKALISA_FULL = 8,          /* creation with the table full, or of a queue for which the block has no room */
     CUNGKALISA_ALREADY_OWNED = 9, /* lock by the owner; send by the owner to its own full queue */
     CUNGKALISA_NOT_OWNER = 10,    /* unlock of a mutex that the caller doesn't own, a free one included; receive from a
@@ -174,15 +165,13 @@ enum {
     CUNGKALISA_HELD = 11,         /* the caller would wait, or yield, while scheduling is held */
     CUNGKALISA_RING = 12,         /* lock or send whose wait would close a ring of waits */
     CUNGKALISA_HOLD_LIMIT = 13,   /* hold at depth 255, or free at depth 0 */
-    CUNGKALISA_NO_STEP = 14,      /* the code is no step's, a message has no word or over 8, or a mutex of kind 2 has no
-                                     ceiling or one of another kind has */
-    CUNGKALISA_UNSOUND = 15,      /* the record isn't sound, or the block is too short for its queues */
-    CUNGKALISA_ABOVE_CEILING = 16 /* lock by a task whose own priority is more urgent than the mutex's ceiling */
+    CUNGKALISA_NO_STEP = 14,      /* the code is no step's, or a message has no word or over 8 */
+    CUNGKALISA_UNSOUND = 15       /* the record isn't sound, or the block is too short for its queues */
 };
 
 /* The parts of an answer: bits 0 to 7, 8 to 15, and 32 to 63. */
 
-/* Its number, CUNGKALISA_DONE .. CUNGKALISA_ABOVE_CEILING. */
+/* Its number, CUNGKALISA_DONE .. CUNGKALISA_UNSOUND. */
 uint8_t cungkalisa_number(uint64_t answer);
 
 /* The task to run from now on, or CUNGKALISA_NONE. */
@@ -223,15 +212,13 @@ enum {
     CUNGKALISA_STEP_QUEUE_OWNED = 17,
     CUNGKALISA_STEP_SEND = 18,
     CUNGKALISA_STEP_RECEIVE = 19,
-    CUNGKALISA_STEP_WORD = 20,
-    CUNGKALISA_STEP_MUTEX_CEILING = 21
+    CUNGKALISA_STEP_WORD = 20
 };
 
 /* Makes the step of a code, with as many of the numbers a, b and c as it has; the others are ignored. A send has a message
  * of count words, which the step only reads; the other steps ignore it. Of the block a step changes the words of one message
  * of its own queue at most. Neither pointer is NULL, even where it has no words. A code that is no step's is answered
- * CUNGKALISA_NO_STEP, and so is a kind that doesn't belong to the code: CUNGKALISA_STEP_MUTEX_CEILING has the numbers
- * CUNGKALISA_CEILING and the ceiling, CUNGKALISA_STEP_MUTEX any other kind. */
+ * CUNGKALISA_NO_STEP. */
 uint64_t cungkalisa_step(cungkalisa *k, uint32_t code, uint32_t a, uint32_t b, uint32_t c, const uint32_t *message,
                          uint64_t count, uint32_t *block, uint64_t block_words);
 
@@ -274,17 +261,10 @@ static inline uint64_t cungkalisa_task(const cungkalisa_kernel *k, uint32_t prio
     return cungkalisa_step_on(k, CUNGKALISA_STEP_TASK, priority, 0, 0);
 }
 
-/* Set-up: a new mutex, CUNGKALISA_PLAIN or CUNGKALISA_INHERITING. Value: its id. */
+/* Set-up: a new mutex, plain (0) or inheriting (1). Value: its id. */
 static inline uint64_t cungkalisa_mutex(const cungkalisa_kernel *k, uint32_t kind)
 {
     return cungkalisa_step_on(k, CUNGKALISA_STEP_MUTEX, kind, 0, 0);
-}
-
-/* Set-up: a new mutex with a ceiling, 0 to 31. Its owner is lifted to the ceiling at once; a task whose own priority is more
- * urgent may not lock it. Value: its id. */
-static inline uint64_t cungkalisa_mutex_ceiling(const cungkalisa_kernel *k, uint32_t ceiling)
-{
-    return cungkalisa_step_on(k, CUNGKALISA_STEP_MUTEX_CEILING, CUNGKALISA_CEILING, ceiling, 0);
 }
 
 /* Set-up: a new semaphore with so many credits, and so many at most. Value: its id. */

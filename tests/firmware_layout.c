@@ -55,31 +55,30 @@ static void places(void)
     FIELD(semaphores.n, 228, 1);
     FIELD(clock, 232, 4);
     FIELD(mutexes.kind, 236, 8);
-    FIELD(mutexes.ceiling, 244, 8);
-    FIELD(mutexes.owner, 252, 8);
-    FIELD(mutexes.n, 260, 1);
-    FIELD(queues.width, 261, 8);
-    FIELD(queues.depth, 269, 8);
-    FIELD(queues.owner, 277, 8);
-    FIELD(queues.oldest, 285, 8);
-    FIELD(queues.used, 293, 8);
-    FIELD(queues.n, 301, 1);
-    FIELD(ready.ids, 302, 16);
-    FIELD(ready.n, 318, 1);
-    FIELD(waiting.ids, 319, 16);
-    FIELD(waiting.n, 335, 1);
-    FIELD(started, 336, 1);
-    FIELD(hold, 337, 1);
-    FIELD(running, 338, 1);
-    field_is("words", offsetof(cungkalisa, words), sizeof record.words, 340, 512);
-    expect(sizeof(cungkalisa_state) == 340 && offsetof(cungkalisa, state) == 0, "the state", 0);
-    expect(sizeof(cungkalisa) == 852, "size of the record", 0);
+    FIELD(mutexes.owner, 244, 8);
+    FIELD(mutexes.n, 252, 1);
+    FIELD(queues.width, 253, 8);
+    FIELD(queues.depth, 261, 8);
+    FIELD(queues.owner, 269, 8);
+    FIELD(queues.oldest, 277, 8);
+    FIELD(queues.used, 285, 8);
+    FIELD(queues.n, 293, 1);
+    FIELD(ready.ids, 294, 16);
+    FIELD(ready.n, 310, 1);
+    FIELD(waiting.ids, 311, 16);
+    FIELD(waiting.n, 327, 1);
+    FIELD(started, 328, 1);
+    FIELD(hold, 329, 1);
+    FIELD(running, 330, 1);
+    field_is("words", offsetof(cungkalisa, words), sizeof record.words, 332, 512);
+    expect(sizeof(cungkalisa_state) == 332 && offsetof(cungkalisa, state) == 0, "the state", 0);
+    expect(sizeof(cungkalisa) == 844, "size of the record", 0);
 }
 
 /* The bytes of the state that no field has. */
 static int is_padding(int at)
 {
-    return (at >= 161 && at < 164) || (at >= 229 && at < 232) || at == 339;
+    return (at >= 161 && at < 164) || (at >= 229 && at < 232) || at == 331;
 }
 
 /* Is the record as it should be, byte for byte? */
@@ -114,7 +113,6 @@ static void fresh_fields(void)
 {
     cungkalisa_state *w = &want.state;
     memset(&want, 0, sizeof want);
-    memset(w->mutexes.ceiling, CUNGKALISA_NONE, sizeof w->mutexes.ceiling);
     memset(w->mutexes.owner, CUNGKALISA_NONE, sizeof w->mutexes.owner);
     memset(w->queues.owner, CUNGKALISA_NONE, sizeof w->queues.owner);
     memset(w->ready.ids, CUNGKALISA_NONE, sizeof w->ready.ids);
@@ -140,49 +138,15 @@ static void make_tasks(void)
     same("one task too many", 16);
 }
 
-/* The next mutex is made, of its kind, and with its ceiling where it has one. */
-static void make_mutex(uint8_t kind, uint8_t ceiling)
-{
-    cungkalisa_mutexes *w = &want.state.mutexes;
-    uint64_t answer =
-        kind == CUNGKALISA_CEILING ? cungkalisa_mutex_ceiling(&kernel, ceiling) : cungkalisa_mutex(&kernel, kind);
-    answered(answer, 0, w->n, 255, "mutex", w->n);
-    w->kind[w->n] = kind;
-    w->ceiling[w->n] = ceiling;
-    w->n++;
-    same("mutex", w->n - 1);
-}
-
-/* A ceiling at every place, none of them like another, on a fresh record, which is made fresh again; before them the kinds and
- * ceilings that there aren't. */
-static void make_ceilings(void)
-{
-    answered(cungkalisa_mutex(&kernel, CUNGKALISA_CEILING), CUNGKALISA_NO_STEP, 0, 255, "a mutex without its ceiling", 2);
-    for (uint32_t kind = 0; kind < 4; kind++)
-        if (kind != CUNGKALISA_CEILING)
-            answered(cungkalisa_step_on(&kernel, CUNGKALISA_STEP_MUTEX_CEILING, kind, 5, 0), CUNGKALISA_NO_STEP, 0, 255,
-                     "a ceiling of another kind", (int)kind);
-    answered(cungkalisa_mutex(&kernel, 3), CUNGKALISA_OUT_OF_RANGE, 0, 255, "a kind over 2", 3);
-    answered(cungkalisa_mutex_ceiling(&kernel, 32), CUNGKALISA_OUT_OF_RANGE, 0, 255, "a ceiling over 31", 32);
-    same("refused mutexes", 0);
-    for (int i = 0; i < 8; i++)
-        make_mutex(CUNGKALISA_CEILING, (uint8_t)(31 - 4 * i));
-    answered(cungkalisa_mutex_ceiling(&kernel, 0), CUNGKALISA_FULL, 0, 255, "one mutex too many", 8);
-    same("one mutex too many", 8);
-    cungkalisa_fresh(&record);
-    fresh_fields();
-    same("fresh again", 0);
-}
-
-/* The mutexes of the test's other parts. Task 15, of priority 1, takes them all: one ceiling is its own priority, one lifts it. */
-static const uint8_t kinds[8] = {1, 0, 2, 1, 0, 2, 1, 0};
-static const uint8_t ceilings[8] = {255, 255, 1, 255, 255, 0, 255, 255};
-
 static void make_mutexes_and_semaphores(void)
 {
     cungkalisa_state *w = &want.state;
-    for (int i = 0; i < 8; i++)
-        make_mutex(kinds[i], ceilings[i]);
+    for (int i = 0; i < 8; i++) {
+        answered(cungkalisa_mutex(&kernel, i % 3 == 0), 0, (uint32_t)i, 255, "mutex", i);
+        w->mutexes.kind[i] = i % 3 == 0;
+        w->mutexes.n++;
+        same("mutex", i);
+    }
     for (int i = 0; i < 8; i++) {
         uint32_t count = i == 7 ? 0 : 0x01020304u * (uint32_t)(i + 1), maximum = 0xa0b0c0d0u + (uint32_t)i;
         answered(cungkalisa_sem(&kernel, count, maximum), 0, (uint32_t)i, 255, "sem", i);
@@ -265,8 +229,6 @@ static void hold_all(void)
     for (uint32_t m = 0; m < 8; m++) {
         answered(cungkalisa_lock(&kernel, m, 0), 0, 0, 15, "lock", (int)m);
         want.state.mutexes.owner[m] = 15;
-        if (ceilings[m] < want.state.tasks.level[15])
-            want.state.tasks.level[15] = ceilings[m];
         same("lock", (int)m);
     }
 }
@@ -372,7 +334,7 @@ static void ask_all(void)
     want.state.clock++;
     same("tick", 0);
     for (uint32_t i = 0; i < 16; i++) {
-        answered(cungkalisa_level(&kernel, i), 0, i == 15 ? 0 : 31 - 2 * i, 255, "level", (int)i);
+        answered(cungkalisa_level(&kernel, i), 0, 31 - 2 * i, 255, "level", (int)i);
         answered(cungkalisa_outcome(&kernel, i), 0, CUNGKALISA_PENDING, 255, "outcome", (int)i);
         for (uint32_t n = 0; n < CUNGKALISA_WORDS; n++)
             answered(cungkalisa_word(&kernel, i, n), 0, want.words[8 * i + n], 255, "word", (int)(8 * i + n));
@@ -388,7 +350,7 @@ static void damaged(void *at, const void *value, size_t size, const char *what, 
     cungkalisa before = record;
     expect(!cungkalisa_is_sound(&record, BLOCK), what, which);
     answered(cungkalisa_tick(&kernel), CUNGKALISA_UNSOUND, 0, 255, what, which);
-    answered(cungkalisa_step_on(&kernel, 22, 0, 0, 0), CUNGKALISA_NO_STEP, 0, 255, what, which);
+    answered(cungkalisa_step_on(&kernel, 21, 0, 0, 0), CUNGKALISA_NO_STEP, 0, 255, what, which);
     same_record(&record, &before, what, which);
     record = good;
     expect(cungkalisa_is_sound(&record, BLOCK), what, which);
@@ -400,12 +362,23 @@ static void damaged(void *at, const void *value, size_t size, const char *what, 
         damaged(&record.field, &wrong, sizeof wrong, "damaged " #field, which);      \
     } while (0)
 
-/* The tables of mutexes, semaphores and queues; a ceiling also so that its owner, of priority 1, is above it. */
-static void damage_objects(void)
+/* Every field in turn, on the record in which all tasks wait. */
+static void damage_all(void)
 {
+    const cungkalisa_state *s = &record.state;
+    for (int i = 0; i < 16; i++) {
+        DAMAGE(state.tasks.due[i], uint32_t, i % 2 && i < 15 ? 1 : s->clock, i);
+        DAMAGE(state.tasks.priority[i], uint8_t, 32, i);
+        DAMAGE(state.tasks.level[i], uint8_t, 0, i);
+        DAMAGE(state.tasks.outcome[i], uint8_t, 0, i);
+        DAMAGE(state.tasks.wait[i], uint8_t, 0, i);
+        DAMAGE(state.tasks.object[i], uint8_t, 8, i);
+        DAMAGE(state.tasks.timed[i], uint8_t, 2, i);
+        DAMAGE(state.ready.ids[i], uint8_t, 0, i);
+        DAMAGE(state.waiting.ids[i], uint8_t, 16, i);
+    }
     for (int i = 0; i < 8; i++) {
-        DAMAGE(state.mutexes.kind[i], uint8_t, kinds[i] == CUNGKALISA_CEILING ? CUNGKALISA_PLAIN : CUNGKALISA_CEILING, i);
-        DAMAGE(state.mutexes.ceiling[i], uint8_t, kinds[i] == CUNGKALISA_CEILING ? CUNGKALISA_NONE : 0, i);
+        DAMAGE(state.mutexes.kind[i], uint8_t, 2, i);
         DAMAGE(state.mutexes.owner[i], uint8_t, 16, i);
         DAMAGE(state.semaphores.count[i], uint32_t, 0xffffffffu, i);
         DAMAGE(state.semaphores.maximum[i], uint32_t, 0, i);
@@ -415,25 +388,6 @@ static void damage_objects(void)
         DAMAGE(state.queues.oldest[i], uint8_t, depths[i], i);
         DAMAGE(state.queues.used[i], uint8_t, (uint8_t)(depths[i] + 1), i);
     }
-    DAMAGE(state.mutexes.ceiling[2], uint8_t, 2, 2);
-}
-
-/* Every field in turn, on the record in which all tasks wait. */
-static void damage_all(void)
-{
-    const cungkalisa_state *s = &record.state;
-    for (int i = 0; i < 16; i++) {
-        DAMAGE(state.tasks.due[i], uint32_t, i % 2 && i < 15 ? 1 : s->clock, i);
-        DAMAGE(state.tasks.priority[i], uint8_t, 32, i);
-        DAMAGE(state.tasks.level[i], uint8_t, 2, i);
-        DAMAGE(state.tasks.outcome[i], uint8_t, 0, i);
-        DAMAGE(state.tasks.wait[i], uint8_t, 0, i);
-        DAMAGE(state.tasks.object[i], uint8_t, 8, i);
-        DAMAGE(state.tasks.timed[i], uint8_t, 2, i);
-        DAMAGE(state.ready.ids[i], uint8_t, 0, i);
-        DAMAGE(state.waiting.ids[i], uint8_t, 16, i);
-    }
-    damage_objects();
     DAMAGE(state.tasks.n, uint8_t, 15, 0);
     DAMAGE(state.mutexes.n, uint8_t, 7, 0);
     DAMAGE(state.semaphores.n, uint8_t, 7, 0);
@@ -510,10 +464,10 @@ static void both_ways(const cungkalisa *start, const char *what, struct given g)
  * stands and on the same damaged. */
 static void by_value(const char *what)
 {
-    static const uint32_t numbers[] = {0, 1, 2, 7, 16, 40, 0x7fffffffu, 0xffffffffu};
+    static const uint32_t numbers[] = {0, 1, 5, 7, 16, 40, 0x7fffffffu, 0xffffffffu};
     cungkalisa broken = record;
     broken.state.started = 2;
-    for (uint32_t code = 0; code < 23; code++)
+    for (uint32_t code = 0; code < 22; code++)
         for (unsigned i = 0; i < 8; i++)
             for (unsigned j = 0; j < 8; j++) {
                 struct given g = {code, numbers[i], numbers[j], numbers[(i + j) % 8], (3 * i + j) % 10};
@@ -533,7 +487,6 @@ int main(int count, char **words)
     fresh_fields();
     same("fresh", 0);
     by_value("by value, fresh");
-    make_ceilings();
     make_tasks();
     make_mutexes_and_semaphores();
     make_queues();

@@ -10,12 +10,7 @@ function cell(i,   s) {
     if (i == run) s = "RUN"
     else if (outcome[i] == 1) s = (waits[i] ~ /^m/) ? waits[i] "<" owner[substr(waits[i], 2)] : waits[i]
     else s = "."
-    return (level[i] < own[i]) ? s "^" level[i] by_ceiling(i) : s
-}
-# The mutex that task i owns and whose ceiling is its level, if there is one.
-function by_ceiling(i,   m) {
-    for (m = 0; m < mutexes; m++) if (owner[m] == i && ceiling[m] == level[i]) return ":m" m
-    return ""
+    return (level[i] < own[i]) ? s "^" level[i] : s
 }
 # What the caller waits for, from the step that it waits in: an owner that never changes is named at once.
 function awaited() {
@@ -25,17 +20,9 @@ function awaited() {
     if (word[1] == "send") return "send" word[2] ((receiver[word[2]] == "") ? "" : "<" receiver[word[2]])
     return "zz"
 }
-# A mutex was made; one that has no ceiling, or no owner, has a dash there, which is no number.
-function new_mutex() {
-    owner[mutexes] = "-"
-    ceiling[mutexes] = (word[3] == "") ? "-" : word[3]
-    if (word[3] != "") ceilings++
-    mutexes++
-}
 # A step's answer: who was made, who waits now and for what, who owns what, and who holds a message by it.
 function answered() {
     if (number == 0 && word[1] == "task") { own[n] = word[2]; n++ }
-    if (number == 0 && word[1] == "mutex") new_mutex()
     if (number == 0 && word[1] == "queue") { width[queues] = word[2]; receiver[queues] = word[4]; queues++ }
     if (number == 0 && word[1] == "tick") clock = (clock + 1) % 4294967296
     if (number == 0 && word[1] == "lock") owner[word[2]] = before
@@ -76,7 +63,7 @@ FILENAME == ARGV[1] { script[FNR] = $0; next }
 FNR == 1 {
     bad = ($1 != "log")
     if (bad) { print; exit }
-    n = 0; mutexes = 0; ceilings = 0; queues = 0; clock = 0; shown = 0; run = "-"
+    n = 0; queues = 0; clock = 0; shown = 0; run = "-"
     line = 1; at = 0; answer_width = 9; cell_width = 9
     next
 }
@@ -101,7 +88,6 @@ at > 32 && $1 == 0 { held[int((at - 33) / 8), (at - 33) % 8] = $2 }
 END {
     if (bad) exit
     print "RUN runs, . is ready, m0<2 waits for mutex 0 that task 2 owns, s1 waits for semaphore 1, zz sleeps; ^3 is lifted to level 3"
-    if (ceilings > 0) print "^3:m1 is lifted to level 3 by the ceiling of mutex 1 that it owns"
     if (queues > 0) print "send0<2 waits to send to queue 0 that task 2 owns, receive1 to receive from queue 1; 2 holds 7 8: the message that it waits to send or got"
     for (i = 0; i < n; i++) cells[0, i] = i "(" own[i] ")"
     print row(sprintf("%6s %6s  %-24s", "line", "clock", "step"), "answer", 0)

@@ -1,11 +1,11 @@
 //! Loads: lists of steps that all sides are given.
 
-use outside::kernel::{Kind, Message, State, Step, FOREVER};
+use outside::kernel::{Message, State, Step, FOREVER};
 use outside::random::{self, Random};
 use outside::script::BLOCK;
 
-/// "queues" alone has queues, and "ceilings" alone has mutexes with ceilings.
-pub const NAMES: [&str; 6] = ["mixed", "tick-heavy", "lock-chain", "idle", "queues", "ceilings"];
+/// The last one alone has queues.
+pub const NAMES: [&str; 5] = ["mixed", "tick-heavy", "lock-chain", "idle", "queues"];
 
 /// A queue for any task, and one of task 0's.
 const QUEUES: [Step; 2] = [Step::Queue(2, 2, None), Step::Queue(4, 3, Some(0))];
@@ -14,38 +14,26 @@ const QUEUES: [Step; 2] = [Step::Queue(2, 2, None), Step::Queue(4, 3, Some(0))];
 pub fn steps(load: &str, tasks: usize, count: usize) -> Vec<Step> {
     let mut random = Random(tasks as u64);
     let mut list: Vec<Step> = (0..tasks).map(|i| Step::Task(31 - (2 * i as u32) % 32)).collect();
-    list.extend((0..8).map(|m| Step::Mutex(kind(load, m))));
+    list.extend([Step::Mutex(1); 8]);
     list.extend([Step::Sem(0, 3), Step::Sem(2, 3)]);
     if load == "queues" {
         list.extend(QUEUES);
     }
     list.push(Step::Start);
     let mut state = list.iter().fold(State::default(), |state, &s| state.step(s, BLOCK).0);
-    let round = |i: usize| match load {
-        "queues" => queue_round(i),
-        "ceilings" => ceiling_round(i),
-        _ => lock_round(i, tasks),
-    };
+    let round = |i: usize| if load == "queues" { queue_round(i) } else { lock_round(i, tasks) };
     let mut rounds: Vec<Vec<Step>> = (0..tasks).map(round).collect();
     for _ in 0..count {
         let s = match load {
             "mixed" => random::plain_step(&mut random, &state),
             "tick-heavy" => tick_heavy(&mut random),
-            "lock-chain" | "queues" | "ceilings" => next_in_round(&mut rounds, &state),
+            "lock-chain" | "queues" => next_in_round(&mut rounds, &state),
             _ => idle(&state),
         };
         state = state.step(s, BLOCK).0;
         list.push(s);
     }
     list
-}
-
-/// The kind of a load's mutex: inheriting, or with the priority of the more urgent of the two tasks that share it as its ceiling.
-fn kind(load: &str, mutex: u32) -> Kind {
-    match load {
-        "ceilings" => Kind::with_ceiling(29 - 4 * mutex),
-        _ => Kind::INHERITING,
-    }
 }
 
 /// Nine ticks, then a task that sleeps or waits for a semaphore, up to a hundred ticks long.
@@ -93,23 +81,6 @@ fn queue_round(task: usize) -> Vec<Step> {
         _ if task % 2 == 1 => vec![send(1, FOREVER, &[own, 2, 3, 4]), Step::Sleep(own)],
         _ => [&pass_on[..], &[Step::Receive(0, 2), Step::Sleep(own)]].concat(),
     }
-}
-
-/// The same with ceilings: tasks 0 and 1 share mutex 0, tasks 2 and 3 mutex 1, and so on. The less urgent of the two is
-/// lifted, and sleeps for a tick while it owns the mutex, so that others may come to wait for it; the more urgent one is lifted by
-/// the next pair's mutex, which it takes too. Nobody takes an earlier mutex while it owns a later one, so that no ring would close.
-fn ceiling_round(task: usize) -> Vec<Step> {
-    let (own, mutex) = (task as u32, task as u32 / 2);
-    let mut steps = vec![Step::Sleep(own + 1), Step::Lock(mutex, FOREVER)];
-    match task {
-        15 => {}
-        _ if task % 2 == 1 => {
-            steps.extend([Step::Lock(mutex + 1, FOREVER), Step::Unlock(mutex + 1)]);
-        }
-        _ => steps.push(Step::Sleep(1)),
-    }
-    steps.push(Step::Unlock(mutex));
-    steps
 }
 
 /// The next step of the round of the task that runs; a tick where none does.

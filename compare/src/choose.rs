@@ -1,7 +1,7 @@
 //! Random calls, damages and clocks.
 
-use compare::{Bytes, Call, MOST_WORDS, MUTEXES_AND_QUEUES, STATE};
-use outside::kernel::{Kind, State, Step, FOREVER};
+use compare::{Bytes, Call, MOST_WORDS, QUEUES, STATE};
+use outside::kernel::{State, Step, FOREVER};
 use outside::random::{self, Random};
 use outside::record::Record;
 
@@ -65,7 +65,7 @@ pub fn call(random: &mut Random, state: &State, way: Way) -> Call {
 }
 
 fn any_call(random: &mut Random) -> Call {
-    let code = if random.one_in(4) { number(random) } else { random.below(22) as u32 };
+    let code = if random.one_in(4) { number(random) } else { random.below(21) as u32 };
     let (a, b, c) = (number(random), number(random), number(random));
     let mut words = [0; MOST_WORDS];
     words.fill_with(|| number(random));
@@ -78,7 +78,7 @@ fn chaining(random: &mut Random, state: &State, queues: bool) -> Option<Step> {
     if !state.started {
         return Some(match (state.tasks.len(), state.mutexes.len(), state.queues.len()) {
             (0..16, ..) => Step::Task(random.below(32) as u32),
-            (_, 0..8, _) => Step::Mutex(new_kind(random)),
+            (_, 0..8, _) => Step::Mutex(!random.one_in(6) as u32),
             (_, _, 0..8) if queues => {
                 Step::Queue(1 << random.below(4), 1, Some(random.below(16) as u32))
             }
@@ -87,7 +87,7 @@ fn chaining(random: &mut Random, state: &State, queues: bool) -> Option<Step> {
     }
     let running = state.running?;
     let owner = |m: u32| state.mutexes[m as usize].owner;
-    let mutexes = (0..state.mutexes.len() as u32).filter(|&m| may_lock(state, running, m));
+    let mutexes = 0..state.mutexes.len() as u32;
     if !mutexes.clone().any(|m| owner(m) == Some(running)) {
         if let Some(free) = mutexes.clone().find(|&m| owner(m).is_none()) {
             return Some(Step::Lock(free, 0));
@@ -105,21 +105,6 @@ fn chaining(random: &mut Random, state: &State, queues: bool) -> Option<Step> {
     let longest = ways.iter().copied().max_by_key(|&(links, _)| links)?;
     let any = ways[random.below(ways.len())];
     Some(if random.one_in(3) { any.1 } else { longest.1 })
-}
-
-/// The kind of a mutex of a chain: a few are plain, some have a ceiling, and few tasks are above it.
-fn new_kind(random: &mut Random) -> Kind {
-    match random.below(6) {
-        0 => Kind::PLAIN,
-        1..=2 => Kind::with_ceiling(random.below(8) as u32),
-        _ => Kind::INHERITING,
-    }
-}
-
-/// May the task lock this mutex, being no more urgent by itself than its ceiling?
-fn may_lock(state: &State, task: usize, m: u32) -> bool {
-    let own = u32::from(state.tasks[task].priority);
-    state.mutexes[m as usize].kind.ceiling().is_none_or(|ceiling| own >= ceiling)
 }
 
 /// A step towards several waits that end at one tick, with their owners ready: few priorities, waits till the clock is
@@ -150,11 +135,11 @@ fn links(state: &State, owner: Option<usize>) -> u32 {
     1 + links(state, state.tasks[i].wait.and_then(|wait| state.owner_of(wait.object)))
 }
 
-/// The place of a byte that some field of the state has, that of a mutex or a queue often.
+/// The place of a byte that some field of the state has, the queues' often.
 fn field_byte(random: &mut Random) -> usize {
     loop {
         let at = match random.below(4) {
-            0 => MUTEXES_AND_QUEUES.start + random.below(MUTEXES_AND_QUEUES.len()),
+            0 => QUEUES.start + random.below(QUEUES.len()),
             _ => random.below(STATE),
         };
         if !Bytes::is_padding(at) {

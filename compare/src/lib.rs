@@ -1,6 +1,6 @@
 //! The proved library as Rust calls it, and steps as it takes them.
 
-use outside::kernel::{Kind, Message, Step};
+use outside::kernel::{Message, Step};
 use outside::record::{Kept, Record};
 
 mod linked {
@@ -25,9 +25,9 @@ mod linked {
     }
 }
 
-/// How many bytes a state has, and where in it those of the mutexes and queues stand.
-pub const STATE: usize = 340;
-pub const MUTEXES_AND_QUEUES: std::ops::Range<usize> = 236..302;
+/// How many bytes a state has, and where in it those of the queues stand.
+pub const STATE: usize = 332;
+pub const QUEUES: std::ops::Range<usize> = 253..294;
 
 /// A state as its bytes, those that no field has included. Any bytes are a state.
 #[repr(C, align(4))]
@@ -55,7 +55,7 @@ impl Default for Bytes {
 impl Bytes {
     /// Is this one of the state's bytes that no field has? An accepted step may leave anything there.
     pub fn is_padding(at: usize) -> bool {
-        matches!(at, 161..164 | 229..232 | 339..)
+        matches!(at, 161..164 | 229..232 | 331..)
     }
 
     pub fn kept(&self) -> Kept {
@@ -121,10 +121,7 @@ impl Call {
         let mut call = rest;
         (call.code, call.a, call.b, call.c) = match s {
             Step::Task(priority) => (0, priority, b, c),
-            Step::Mutex(kind) => match kind.ceiling() {
-                None => (1, kind.number(), b, c),
-                Some(ceiling) => (21, kind.number(), ceiling, c),
-            },
+            Step::Mutex(kind) => (1, kind, b, c),
             Step::Sem(count, maximum) => (2, count, maximum, c),
             Step::Start => (3, a, b, c),
             Step::Lock(mutex, time) => (4, mutex, time, c),
@@ -152,12 +149,12 @@ impl Call {
         call
     }
 
-    /// The step that the code stands for with its numbers, if any.
+    /// The step that the code stands for, if any.
     pub fn step(&self) -> Option<Step> {
         let Call { code, a, b, c, .. } = *self;
         Some(match code {
             0 => Step::Task(a),
-            1 => Step::Mutex(Kind::new(a, None)?),
+            1 => Step::Mutex(a),
             2 => Step::Sem(a, b),
             3 => Step::Start,
             4 => Step::Lock(a, b),
@@ -177,7 +174,6 @@ impl Call {
             18 => Step::Send(a, b, Message::new(self.message())?),
             19 => Step::Receive(a, b),
             20 => Step::Word(a, b),
-            21 => Step::Mutex(Kind::new(a, Some(b))?),
             _ => return None,
         })
     }

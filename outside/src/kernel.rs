@@ -16,7 +16,7 @@ pub const WORDS: usize = 8;
 #[derive(Clone, Copy, Debug, PartialEq, Eq)]
 pub enum Step {
     Task(u32),
-    Mutex(Kind),
+    Mutex(u32),
     Sem(u32, u32),
     Start,
     Lock(u32, u32),
@@ -35,37 +35,6 @@ pub enum Step {
     Send(u32, u32, Message),
     Receive(u32, u32),
     Word(u32, u32),
-}
-
-/// What kind of mutex, with its ceiling if it has one: "14 for kind 2 without c or
-/// another kind with it", so that such a one is no step at all.
-#[derive(Clone, Copy, Debug, PartialEq, Eq)]
-pub struct Kind {
-    number: u32,
-    ceiling: Option<u32>,
-}
-
-impl Kind {
-    /// "A mutex is plain (kind 0) or inheriting (kind 1)."
-    pub const PLAIN: Kind = Kind { number: 0, ceiling: None };
-    pub const INHERITING: Kind = Kind { number: 1, ceiling: None };
-
-    /// "kind 2: `mutex 2 c`, with ceiling c from 0 to 31"
-    pub const fn with_ceiling(ceiling: u32) -> Kind {
-        Kind { number: 2, ceiling: Some(ceiling) }
-    }
-
-    pub fn new(number: u32, ceiling: Option<u32>) -> Option<Kind> {
-        (ceiling.is_some() == (number == 2)).then_some(Kind { number, ceiling })
-    }
-
-    pub fn number(self) -> u32 {
-        self.number
-    }
-
-    pub fn ceiling(self) -> Option<u32> {
-        self.ceiling
-    }
 }
 
 /// The words of a send, one to eight of them: "14 for a send with no word or
@@ -126,9 +95,10 @@ pub struct Task {
     pub words: [u32; WORDS],
 }
 
+/// "A mutex is plain (kind 0) or inheriting (kind 1)."
 #[derive(Clone, Debug, PartialEq, Eq)]
 pub struct Mutex {
-    pub kind: Kind,
+    pub inheriting: bool,
     pub owner: Option<usize>,
 }
 
@@ -197,8 +167,8 @@ impl State {
     }
 
     /// The table of refusals, in its order: "4, 5, 6, 7, 8 (full table), 9, 10, 3,
-    /// 11, 12; then 2 and 13", with "16, after 9"; the first row that applies gives number
-    /// and value. (A row may say anything where one above it applies.)
+    /// 11, 12; then 2 and 13"; the first row that applies gives number and value.
+    /// (A row may say anything where one above it applies.)
     fn refusal(&self, s: Step, block: usize) -> Option<(u32, u32)> {
         use Step::*;
         let of_set_up = matches!(s, Task(_) | Mutex(_) | Sem(..) | Queue(..) | Start);
@@ -220,8 +190,7 @@ impl State {
         let no_time = |t: u32| t > LONGEST && t != FOREVER;
         let out_of_range = match s {
             Task(priority) => priority > 31,
-            // "7 for a kind over 2 or a ceiling over 31"
-            Mutex(kind) => kind.number > 2 || kind.ceiling.is_some_and(|c| c > 31),
+            Mutex(kind) => kind > 1,
             Sem(count, maximum) => maximum == 0 || count > maximum,
             Lock(_, t) | Pend(_, t) | Receive(_, t) => no_time(t),
             Sleep(t) => t == 0 || t > LONGEST,
@@ -276,15 +245,13 @@ impl State {
             (5, !without_caller && self.running.is_none()),
             // "no such task, mutex or semaphore", "no such queue or owner"
             (6, missing),
-            // "priority over 31, [..] maximum 0, count over maximum, or a time outside its
-            // range", "a kind over 2 or a ceiling over 31"
+            // "priority over 31, kind over 1, maximum 0, count over maximum, or a time
+            // outside its range"
             (7, out_of_range),
             // "creation with the table full", "when table or block lacks room"
             (8, full),
             // "lock by the owner", "owner sending to its own full queue"
             (9, matches!(s, Lock(..) | Send(..)) && would_wait && by_owner),
-            // "a lock by a task whose own priority is a smaller number than c"
-            (16, matches!(s, Lock(m, _) if self.is_above_ceiling(m))),
             // "unlock of a mutex that the caller doesn't own, a free one included",
             // "receive by another than the owner"
             (10, matches!(s, Unlock(_)) && !by_owner),
@@ -304,14 +271,6 @@ impl State {
         Some((number, if number == 12 { links } else { 0 }))
     }
 
-    /// Is the caller's own priority more urgent than the ceiling of this mutex? Its level
-    /// has no part in it.
-    fn is_above_ceiling(&self, m: u32) -> bool {
-        let ceiling = self.mutexes.get(m as usize).and_then(|mutex| mutex.kind.ceiling);
-        let own = self.running.map(|i| self.tasks[i].priority as u32);
-        matches!((own, ceiling), (Some(own), Some(ceiling)) if own < ceiling)
-    }
-
     /// Makes a step that isn't refused, levels and orders still as before it.
     /// Tasks that become ready by it are put into `woken`, oldest wait first. Gives
     /// number and value.
@@ -328,7 +287,7 @@ impl State {
                 return (0, id as u32);
             }
             Mutex(kind) => {
-                self.mutexes.push(self::Mutex { kind, owner: None });
+                self.mutexes.push(self::Mutex { inheriting: kind == 1, owner: None });
                 return (0, self.mutexes.len() as u32 - 1);
             }
             Sem(count, maximum) => {
@@ -515,21 +474,15 @@ impl State {
     }
 
     /// "A task's level is the smallest of its own priority and the levels of all
-    /// tasks waiting on inheriting mutexes that it owns", of those waiting to send to
-    /// queues that it owns, "and the ceilings owned". Every waiter hands its level to
-    /// the owner; "Waiters lend nothing through" a ceiling mutex, nor through a plain
-    /// one. A level passes along a chain of at most 15 links, so sixteen rounds are enough.
+    /// tasks waiting on inheriting mutexes that it owns", and of those waiting to send
+    /// to queues that it owns. Every waiter hands its level to the owner; a level
+    /// passes along a chain of at most 15 links, so sixteen rounds are enough.
     fn levels(&self) -> Vec<u8> {
         let mut levels: Vec<u8> = self.tasks.iter().map(|task| task.priority).collect();
-        for mutex in &self.mutexes {
-            if let (Some(owner), Some(ceiling)) = (mutex.owner, mutex.kind.ceiling) {
-                levels[owner] = levels[owner].min(ceiling as u8);
-            }
-        }
         for _ in 0..TASKS {
             for (i, task) in self.tasks.iter().enumerate() {
                 let Some(Wait { object, .. }) = task.wait else { continue };
-                if matches!(object, Object::Mutex(m) if self.mutexes[m].kind != Kind::INHERITING) {
+                if matches!(object, Object::Mutex(m) if !self.mutexes[m].inheriting) {
                     continue;
                 }
                 if let Some(owner) = self.owner_of(object) {

@@ -1,4 +1,4 @@
-//! The kernel of document 01 with document 02's requests K1 to K4, written a second
+//! The kernel of document 01 with document 02's requests K1 to K3, written a second
 //! time from the documents alone, so that the verified implementation can be
 //! compared with it. Nothing is proved here and nothing is fast; sentences in quotes are
 //! the documents' own.

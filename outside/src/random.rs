@@ -1,6 +1,6 @@
 //! Random steps, lines and scripts, the same for the same seed.
 
-use crate::kernel::{Kind, Message, Object, State, Step, Task, Wait, FOREVER, LONGEST, WORDS};
+use crate::kernel::{Message, Object, State, Step, Task, Wait, FOREVER, LONGEST, WORDS};
 use crate::script::{line_on_state, parse, text, LONGEST_LINE};
 
 /// The generator known as splitmix64.
@@ -58,20 +58,18 @@ impl Random {
 pub fn step(random: &mut Random, state: &State) -> Step {
     match random.below(10) {
         0..=2 => queue_step(random, state),
-        3 if is_for_set_up(random, state) => Step::Mutex(new_ceiling(random)),
         _ => plain_step(random, state),
     }
 }
 
-/// The same, of those that have nothing to do with queues and make no ceiling mutex.
+/// The same, of those that have nothing to do with queues.
 pub fn plain_step(random: &mut Random, state: &State) -> Step {
     if is_for_set_up(random, state) {
         let most = random.odd().max(1);
         return match random.below(40) {
             0..=15 if random.one_in(2) => Step::Task(random.below(4) as u32),
             0..=15 => Step::Task(random.id(32)),
-            16..=26 if random.one_in(4) => Step::Mutex(other_kind(random)),
-            16..=26 => Step::Mutex(Kind::INHERITING),
+            16..=26 => Step::Mutex(if random.one_in(4) { random.id(2) } else { 1 }),
             27..=32 if random.one_in(3) => Step::Sem(random.odd(), most),
             27..=32 => Step::Sem(random.below(2) as u32, 1 + random.below(3) as u32),
             33..=36 => Step::Level(random.id(state.tasks.len())),
@@ -113,17 +111,6 @@ fn is_for_set_up(random: &mut Random, state: &State) -> bool {
 
 fn owned_by_running(state: &State) -> Option<usize> {
     state.mutexes.iter().position(|m| m.owner.is_some() && m.owner == state.running)
-}
-
-/// Plain or inheriting, now and then of a kind that there isn't.
-fn other_kind(random: &mut Random) -> Kind {
-    Kind::new(random.id(2), None).unwrap_or(Kind::PLAIN)
-}
-
-/// A ceiling: often so urgent that most tasks may lock the mutex and are lifted by it, often
-/// one that some are above.
-fn new_ceiling(random: &mut Random) -> Kind {
-    Kind::with_ceiling(if random.one_in(2) { random.below(4) as u32 } else { random.id(32) })
 }
 
 /// A queue made or used; a word looked at where nobody runs.

@@ -1,10 +1,10 @@
 //! The record: the same state as plain numbers, columns by id. Beside it stand the
 //! words that tasks hold, and the messages are in a lent block of words.
 
-use crate::kernel::{Answer, Kind, Mutex, Object, Queue, Semaphore, State, Step, Task, Wait};
+use crate::kernel::{Answer, Mutex, Object, Queue, Semaphore, State, Step, Task, Wait};
 use crate::kernel::{LONGEST, TASKS, WORDS};
 
-/// No owner, no ceiling, nothing running, an unused place of a task list.
+/// No owner, nothing running, an unused place of a task list.
 pub const NONE: u8 = 255;
 
 #[repr(C)]
@@ -30,12 +30,10 @@ pub struct Tasks {
     pub n: u8,
 }
 
-/// `kind` is 0 plain, 1 inheriting, 2 with the ceiling beside it.
 #[repr(C)]
 #[derive(Clone, Debug, Default, PartialEq, Eq)]
 pub struct Mutexes {
     pub kind: [u8; 8],
-    pub ceiling: [u8; 8],
     pub owner: [u8; 8],
     pub n: u8,
 }
@@ -88,7 +86,7 @@ pub struct Kept {
 pub fn fresh() -> Kept {
     let mut kept = Kept::default();
     let r = &mut kept.record;
-    (r.mutexes.ceiling, r.mutexes.owner, r.queues.owner) = ([NONE; 8], [NONE; 8], [NONE; 8]);
+    (r.mutexes.owner, r.queues.owner) = ([NONE; 8], [NONE; 8]);
     (r.ready.ids, r.waiting.ids) = ([NONE; 16], [NONE; 16]);
     r.running = NONE;
     kept
@@ -146,8 +144,7 @@ pub fn to_record(state: &State, oldest: [u8; 8], block: &mut [u32]) -> Kept {
     }
     r.tasks.n = state.tasks.len() as u8;
     for (i, mutex) in state.mutexes.iter().enumerate() {
-        r.mutexes.kind[i] = mutex.kind.number() as u8;
-        r.mutexes.ceiling[i] = mutex.kind.ceiling().map_or(NONE, |c| c as u8);
+        r.mutexes.kind[i] = mutex.inheriting as u8;
         r.mutexes.owner[i] = id(mutex.owner);
     }
     r.mutexes.n = state.mutexes.len() as u8;
@@ -203,12 +200,8 @@ pub fn from_record(kept: &Kept, block: &[u32]) -> State {
         wait: wait(i),
         words: kept.words[i],
     };
-    let kind = |i: usize| match r.mutexes.kind[i] {
-        0 => Kind::PLAIN,
-        1 => Kind::INHERITING,
-        _ => Kind::with_ceiling(r.mutexes.ceiling[i] as u32),
-    };
-    let mutex = |i: usize| Mutex { kind: kind(i), owner: id(r.mutexes.owner[i]) };
+    let mutex =
+        |i: usize| Mutex { inheriting: r.mutexes.kind[i] == 1, owner: id(r.mutexes.owner[i]) };
     let semaphore =
         |i: usize| Semaphore { count: r.semaphores.count[i], maximum: r.semaphores.maximum[i] };
     let empty_queue = |i: usize| Queue {
@@ -241,26 +234,21 @@ pub fn from_record(kept: &Kept, block: &[u32]) -> State {
 pub fn is_sound(kept: &Kept, block: usize) -> bool {
     let r = &kept.record;
     (tables_sound(r) && queues_sound(r, block) && tasks_sound(r))
-        && (ceilings_sound(r) && words_sound(kept) && waits_sound(r) && orders_sound(r))
+        && (words_sound(kept) && waits_sound(r) && orders_sound(r))
 }
 
 /// "Numbers within the ranges above"; "unused table places as in the fresh state";
-/// "owners exist"; "counts at most their maximum, maximum at least 1"; a mutex of kind 2,
-/// and no other, has a "ceiling c from 0 to 31". (Clock and hold can't be out of their
-/// ranges.)
+/// "owners exist"; "counts at most their maximum, maximum at least 1". (Clock and
+/// hold can't be out of their ranges.)
 fn tables_sound(r: &Record) -> bool {
     let (t, m, s) = (&r.tasks, &r.mutexes, &r.semaphores);
     let is_task = |i: u8| i < t.n;
     let list = |q: &TaskList| {
         (0..16).all(|at| if at < q.n as usize { is_task(q.ids[at]) } else { q.ids[at] == NONE })
     };
-    let ceiling = |i: usize| match m.kind[i] {
-        2 => m.ceiling[i] <= 31,
-        kind => kind <= 1 && m.ceiling[i] == NONE,
-    };
     let mutex = |i: usize| match i < m.n as usize {
-        true => ceiling(i) && (m.owner[i] == NONE || is_task(m.owner[i])),
-        false => m.kind[i] == 0 && m.ceiling[i] == NONE && m.owner[i] == NONE,
+        true => m.kind[i] <= 1 && (m.owner[i] == NONE || is_task(m.owner[i])),
+        false => m.kind[i] == 0 && m.owner[i] == NONE,
     };
     let semaphore = |i: usize| match i < s.n as usize {
         true => s.count[i] <= s.maximum[i] && s.maximum[i] >= 1,
@@ -336,14 +324,6 @@ fn tasks_sound(r: &Record) -> bool {
     })
 }
 
-/// "No owner or waiter of one has an own priority smaller than c".
-fn ceilings_sound(r: &Record) -> bool {
-    let (t, m) = (&r.tasks, &r.mutexes);
-    let fits = |at: usize, i: usize| m.kind[at] != 2 || t.priority[i] >= m.ceiling[at];
-    (0..8).all(|at| m.owner[at] == NONE || fits(at, m.owner[at] as usize))
-        && (0..t.n as usize).all(|i| t.wait[i] != 1 || fits(t.object[i] as usize, i))
-}
-
 /// "a waiting sender's words past w are 0; in set-up queues are empty, held words 0";
 /// those of tasks that aren't there are as in the fresh state.
 fn words_sound(kept: &Kept) -> bool {
@@ -386,14 +366,11 @@ fn owner_before(r: &Record, i: usize) -> Option<usize> {
 /// The level of a task by the definition, "as far as it goes"; without a ring of
 /// waits it comes to an end.
 fn defined_level(r: &Record, i: usize) -> u8 {
-    let lends_nothing =
-        |j: usize| r.tasks.wait[j] == 1 && r.mutexes.kind[r.tasks.object[j] as usize] != 1;
-    let lifts = |&j: &usize| owner_before(r, j) == Some(i) && !lends_nothing(j);
-    let waiters = (0..r.tasks.n as usize).filter(lifts).map(|j| defined_level(r, j));
-    // Of a mutex that has no ceiling NONE stands there, which no level exceeds.
-    let owned = (0..8).filter(|&at| r.mutexes.owner[at] as usize == i);
-    let ceilings = owned.map(|at| r.mutexes.ceiling[at]);
-    waiters.chain(ceilings).fold(r.tasks.priority[i], u8::min)
+    let is_plain =
+        |j: usize| r.tasks.wait[j] == 1 && r.mutexes.kind[r.tasks.object[j] as usize] == 0;
+    let lifts = |&j: &usize| owner_before(r, j) == Some(i) && !is_plain(j);
+    let waiters = (0..r.tasks.n as usize).filter(lifts);
+    waiters.map(|j| defined_level(r, j)).fold(r.tasks.priority[i], u8::min)
 }
 
 /// What holds of the orders, and in each phase.

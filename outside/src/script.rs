@@ -1,6 +1,6 @@
 //! The script reader and the log writer.
 
-use crate::kernel::{Answer, Kind, Message, State, Step};
+use crate::kernel::{Answer, Message, State, Step};
 use crate::record::{is_sound, step, Kept, NONE};
 use std::io::{self, Read, Write};
 
@@ -59,8 +59,7 @@ pub fn parse(line: &[u8]) -> Option<Step> {
     let numbers = fields.map(number).collect::<Option<Vec<u32>>>()?;
     Some(match (name, numbers.as_slice()) {
         (b"task", &[p]) => Step::Task(p),
-        (b"mutex", &[k]) => Step::Mutex(Kind::new(k, None)?),
-        (b"mutex", &[k, c]) => Step::Mutex(Kind::new(k, Some(c))?),
+        (b"mutex", &[k]) => Step::Mutex(k),
         (b"sem", &[count, max]) => Step::Sem(count, max),
         (b"start", &[]) => Step::Start,
         (b"lock", &[m, t]) => Step::Lock(m, t),
@@ -88,7 +87,7 @@ pub fn parse(line: &[u8]) -> Option<Step> {
 pub fn text(s: Step) -> String {
     let (name, numbers) = match s {
         Step::Task(p) => ("task", vec![p]),
-        Step::Mutex(k) => ("mutex", [k.number()].into_iter().chain(k.ceiling()).collect()),
+        Step::Mutex(k) => ("mutex", vec![k]),
         Step::Sem(count, max) => ("sem", vec![count, max]),
         Step::Start => ("start", vec![]),
         Step::Lock(m, t) => ("lock", vec![m, t]),

@@ -19,7 +19,7 @@ fn after(steps: &[Step]) -> State {
 fn busy() -> State {
     use Step::*;
     let made = [Task(9), Task(5), Task(2), Task(6), Task(20), Task(20)];
-    let rest = [Mutex(Kind::INHERITING), Mutex(Kind::PLAIN), Sem(0, 3), Sem(2, 3), Start];
+    let rest = [Mutex(1), Mutex(0), Sem(0, 3), Sem(2, 3), Start];
     let waits = [Sleep(50), Lock(0, 0), Sleep(1), Pend(0, FOREVER), Lock(0, 9), Tick];
     let state = after(&[&made[..], &rest, &waits].concat());
     assert_eq!((state.running, &state.ready[..]), (Some(1), &[4, 5][..]));
@@ -47,23 +47,6 @@ fn sending() -> State {
     state
 }
 
-/// Task 2 runs and owns inheriting mutex 1, for which task 0 waits; task 0 owns mutex 0, whose
-/// ceiling of 4 lifts it and through it task 2, and for which task 1 waits; task 3 is ready;
-/// ceiling mutex 2 and inheriting mutex 3 are free.
-fn under_ceilings() -> State {
-    use Step::*;
-    let made = [Task(9), Task(6), Task(20), Task(25)];
-    let kinds = [4, 10].map(Kind::with_ceiling);
-    let mutexes = [kinds[0], Kind::INHERITING, kinds[1], Kind::INHERITING].map(Mutex);
-    let waits = [Sleep(2), Sleep(1), Lock(1, 0), Tick, Lock(0, 0), Lock(1, FOREVER), Tick];
-    let more = [Sleep(1), Lock(0, 9), Tick];
-    let state = after(&[&made[..], &mutexes, &[Start], &waits, &more].concat());
-    assert_eq!((state.running, &state.ready[..]), (Some(2), &[3][..]));
-    assert_eq!(state.waiting, [0, 1]);
-    assert_eq!([0, 1, 2, 3].map(|i: usize| state.tasks[i].level), [4, 6, 4, 25]);
-    state
-}
-
 /// The record of a state whose queues begin at the first place of their rings, and the block.
 fn kept(state: &State) -> (Kept, Vec<u32>) {
     let mut block = vec![0; BLOCK];
@@ -88,21 +71,18 @@ fn runs(count: u64, steps: usize, mut check: impl FnMut(&mut Random, &State)) {
 #[test]
 fn layout() {
     assert_eq!((size_of::<Tasks>(), size_of::<Semaphores>()), (164, 68));
-    assert_eq!((size_of::<Mutexes>(), size_of::<Queues>(), size_of::<TaskList>()), (25, 41, 17));
-    assert_eq!((size_of::<Record>(), size_of::<Kept>()), (340, 852));
+    assert_eq!((size_of::<Mutexes>(), size_of::<Queues>(), size_of::<TaskList>()), (17, 41, 17));
+    assert_eq!((size_of::<Record>(), size_of::<Kept>()), (332, 844));
     assert_eq!((offset_of!(Record, semaphores), offset_of!(Record, clock)), (164, 232));
-    assert_eq!((offset_of!(Record, mutexes), offset_of!(Record, queues)), (236, 261));
-    assert_eq!((offset_of!(Mutexes, ceiling), offset_of!(Mutexes, owner)), (8, 16));
-    assert_eq!((offset_of!(Record, ready), offset_of!(Record, waiting)), (302, 319));
-    assert_eq!((offset_of!(Record, running), offset_of!(Kept, words)), (338, 340));
+    assert_eq!((offset_of!(Record, mutexes), offset_of!(Record, queues)), (236, 253));
+    assert_eq!((offset_of!(Record, ready), offset_of!(Record, waiting)), (294, 311));
+    assert_eq!((offset_of!(Record, running), offset_of!(Kept, words)), (330, 332));
 }
 
 #[test]
 fn sound_records() {
     assert_eq!(kept(&State::default()).0, fresh());
-    for state in [State::default(), busy(), under_ceilings()] {
-        assert!(is_sound(&kept(&state).0, 0));
-    }
+    assert!(is_sound(&fresh(), 0) && is_sound(&kept(&busy()).0, 0));
     // Queues of 4, 1, 1 and 1 words.
     let (sending, _) = kept(&sending());
     assert!(is_sound(&sending, 7) && !is_sound(&sending, 6));
@@ -122,8 +102,7 @@ fn damaged_records_are_not_sound() {
         |r| r.mutexes.owner[0] = 0,
         |r| r.tasks.outcome[0] = 20,
     ];
-    let tasks = [3, 3, 4].map(Step::Task);
-    let made = [&tasks[..], &[Step::Mutex(Kind::PLAIN), Step::Sem(0, 1)]].concat();
+    let made = [Step::Task(3), Step::Task(3), Step::Task(4), Step::Mutex(0), Step::Sem(0, 1)];
     let started: [fn(&mut Record); 49] = [
         |r| r.tasks.n = 17,
         |r| r.tasks.n = 5,
@@ -170,7 +149,7 @@ fn damaged_records_are_not_sound() {
         |r| r.tasks.due[2] = r.clock + LONGEST + 1,
         |r| r.mutexes.owner[1] = 6,
         |r| r.mutexes.owner[0] = 0, // a ring of one
-        |r| r.mutexes.kind[1] = 3,
+        |r| r.mutexes.kind[1] = 2,
         |r| r.mutexes.owner[7] = 0,
         |r| r.semaphores.count[1] = 4,
         |r| r.semaphores.maximum[0] = 0,
@@ -238,55 +217,6 @@ fn is_refused(damaged: &Kept, block: &mut [u32], which: usize) {
     let (answer, before) = (Answer { number: 15, value: 0, run: None }, block.to_vec());
     assert_eq!(step(damaged, Step::Tick, block), (damaged.clone(), answer));
     assert_eq!(block, before);
-}
-
-/// A change of a record, and whether the record is sound then.
-type Change = (fn(&mut Record), bool);
-
-/// Changes of `under_ceilings`: a ceiling is 0 to 31 where the kind asks for one, and else none;
-/// "No owner or waiter of one has an own priority smaller than c"; levels are as defined.
-const CEILING_CHANGES: [Change; 25] = [
-    (|r| r.mutexes.ceiling[2] = 0, true),
-    (|r| r.mutexes.ceiling[2] = 31, true),
-    (|r| r.mutexes.ceiling[2] = 32, false),
-    (|r| r.mutexes.ceiling[2] = NONE, false),
-    (|r| r.mutexes.kind[2] = 0, false),
-    (|r| r.mutexes.kind[2] = 1, false),
-    (|r| r.mutexes.kind[2] = 3, false),
-    (|r| (r.mutexes.kind[2], r.mutexes.ceiling[2]) = (0, NONE), true),
-    (|r| (r.mutexes.kind[2], r.mutexes.ceiling[2]) = (1, NONE), true),
-    (|r| (r.mutexes.kind[2], r.mutexes.ceiling[2]) = (3, NONE), false),
-    (|r| r.mutexes.kind[3] = 2, false),
-    (|r| r.mutexes.ceiling[3] = 31, false),
-    (|r| r.mutexes.ceiling[7] = 0, false), // an unused place
-    (|r| (r.mutexes.kind[7], r.mutexes.ceiling[7]) = (2, 5), false),
-    // the waiter at the ceiling, and above it
-    (|r| (r.tasks.priority[1], r.tasks.level[1]) = (4, 4), true),
-    (|r| (r.tasks.priority[1], r.tasks.level[1]) = (3, 3), false),
-    // the owner at the ceiling, and above it, with the one that it lends to
-    (|r| r.tasks.priority[0] = 4, true),
-    (|r| (r.tasks.priority[0], r.tasks.level[0], r.tasks.level[2]) = (3, 3, 3), false),
-    // another ceiling: the levels follow, but not those of waiters
-    (|r| r.mutexes.ceiling[0] = 3, false),
-    (|r| (r.mutexes.ceiling[0], r.tasks.level[0]) = (3, 3), false),
-    (|r| (r.mutexes.ceiling[0], r.tasks.level[0], r.tasks.level[2]) = (3, 3, 3), true),
-    (|r| (r.mutexes.ceiling[0], r.tasks.level[0], r.tasks.level[2]) = (6, 6, 6), true),
-    (|r| (r.mutexes.ceiling[0], r.tasks.level[0], r.tasks.level[2]) = (7, 7, 7), false),
-    // a ready owner
-    (|r| r.mutexes.owner[2] = 3, false),
-    (|r| (r.mutexes.owner[2], r.tasks.level[3]) = (3, 10), true),
-];
-
-#[test]
-fn damaged_ceilings_are_not_sound() {
-    for (at, (change, sound)) in CEILING_CHANGES.into_iter().enumerate() {
-        let (mut kept, mut block) = kept(&under_ceilings());
-        change(&mut kept.record);
-        assert_eq!(is_sound(&kept, BLOCK), sound, "change {at}");
-        if !sound {
-            is_refused(&kept, &mut block, at);
-        }
-    }
 }
 
 /// Which words a task may hold: in set-up none, a waiting sender those of its message, a task
@@ -423,7 +353,7 @@ fn bytes(r: &mut Record) -> Vec<&mut u8> {
         all.extend(column);
     }
     all.extend(t.timed.iter_mut().chain(&mut r.ready.ids).chain(&mut r.waiting.ids));
-    all.extend(m.kind.iter_mut().chain(&mut m.ceiling).chain(&mut m.owner));
+    all.extend(m.kind.iter_mut().chain(&mut m.owner));
     for column in [&mut q.width, &mut q.depth, &mut q.owner, &mut q.oldest, &mut q.used] {
         all.extend(column);
     }
@@ -489,7 +419,7 @@ fn a_sleep_across_the_wrap() {
 /// queues too.
 #[test]
 fn random_scripts_reach_every_answer() {
-    let (mut seen, mut by_lock, mut by_send) = ([0; 17], 0, 0);
+    let (mut seen, mut by_lock, mut by_send) = ([0; 16], 0, 0);
     for seed in 0..200 {
         let mut state = State::default();
         for line in random::script(seed, 500).split(|&byte| byte == b'\n').skip(1) {
@@ -503,36 +433,6 @@ fn random_scripts_reach_every_answer() {
             state = next;
         }
     }
-    println!("answers 0 to 16: {seen:?}; links up to {by_lock} by lock, {by_send} by send");
-    // A script has no state that isn't sound.
-    assert!(seen.iter().enumerate().all(|(number, &times)| (times > 0) == (number != 15)));
-    assert!(by_lock >= 4 && by_send >= 3);
-}
-
-/// Random steps come to all that ceilings can do: a task lifted by its own, one lifted by
-/// another's that is lent on, and a mutex handed on by its owner.
-#[test]
-fn random_steps_use_ceilings() {
-    let (mut lifted, mut lent_on, mut handed_on) = (0, 0, 0);
-    runs(200, 300, |random, state| {
-        let own = |level: u8| state.tasks.iter().any(|task| task.priority == level);
-        for (i, task) in state.tasks.iter().enumerate() {
-            let ceilings = state.mutexes.iter().filter(|m| m.owner == Some(i));
-            let ceiling = ceilings.filter_map(|m| m.kind.ceiling()).min();
-            if task.level < task.priority && ceiling == Some(task.level.into()) {
-                lifted += 1;
-            } else if !own(task.level) && ceiling != Some(task.level.into()) {
-                // Nobody's own priority, nor its own ceiling: another's.
-                lent_on += 1;
-            }
-        }
-        if let s @ Step::Unlock(m) = random::step(random, state) {
-            let (next, answer) = state.step(s, BLOCK);
-            let after = next.mutexes.get(m as usize).filter(|_| answer.number == 0);
-            let is_handed_on = |m: &&Mutex| m.kind.ceiling().is_some() && m.owner.is_some();
-            handed_on += after.filter(is_handed_on).iter().count();
-        }
-    });
-    println!("{lifted} lifted, {lent_on} by a ceiling lent on, {handed_on} handed on");
-    assert!(lifted > 1000 && lent_on > 100 && handed_on > 20);
+    println!("answers 0 to 15: {seen:?}; links up to {by_lock} by lock, {by_send} by send");
+    assert!(seen[..15].iter().all(|&times| times > 0) && by_lock >= 4 && by_send >= 3);
 }

@@ -1,6 +1,5 @@
 //! Whole scripts: those of the folder VECTORS and the folders in it, and the edges P1 to
-//! P12 of document 01 that a script can reach (P9 is in records.rs), with those of queues
-//! and ceilings.
+//! P12 of document 01 that a script can reach (P9 is in records.rs), with those of queues.
 
 use outside::script::replay;
 use std::fs;
@@ -94,34 +93,4 @@ fn queue_edges() {
     );
     // A line of 160 bytes is read, though no step has so many.
     check(&format!("{},{},start", "x".repeat(160), "x".repeat(161)), "14 0 -,14 0 -,0 0 -");
-}
-
-#[test]
-fn ceiling_edges() {
-    let forms = "mutex 2,mutex 2 31,mutex 2 32,mutex 3,mutex 0 5,mutex 3 5,mutex 2 3 4";
-    check(forms, "14 0 -,0 0 -,7 0 -,7 0 -,14 0 -,14 0 -,14 0 -");
-    let full = ["mutex 2 0"; 8].join(",");
-    check(&format!("{full},mutex 2 0,mutex 2 32,mutex 2"), "8 0 -,7 0 -,14 0 -");
-    // Above the ceiling nobody may lock, the mutex being free or taken, whatever time and hold
-    // are; at the ceiling one may.
-    let above = "task 9,task 4,task 5,mutex 2 5,start,lock 0 0,hold,lock 0 9,free,sleep 1";
-    check(above, "0 0 1,16 0 1,0 0 1,16 0 1,0 0 1,1 0 2");
-    let taken = format!("{above},lock 0 0,tick,lock 0 0,lock 0 9,lock 0 2147483648");
-    check(&taken, "0 0 2,0 0 1,16 0 1,16 0 1,7 0 1");
-    // Own priority counts, not the level: one that was lifted above the ceiling may lock.
-    let lifted = "task 9,task 2,mutex 1,mutex 2 5,start,sleep 1,lock 0 0,tick,lock 0 9";
-    check(
-        &format!("{lifted},level 0,lock 1 0,level 0,unlock 0,level 0"),
-        "1 1 0,0 2 0,0 0 0,0 2 0,0 0 1,0 5 1",
-    );
-    // The owner isn't displaced till it gives the mutex up, and then stands at the head.
-    let given_up = "task 9,task 9,task 6,mutex 2 5,start,sleep 1,lock 0 0,tick,unlock 0,sleep 1";
-    check(given_up, "1 0 0,0 0 0,0 0 0,0 0 2,1 0 0");
-    // A wait for it is a link, and closes a ring.
-    let link = "task 9,task 8,mutex 2 3,mutex 0,start,lock 1 0,sleep 1,lock 0 0,tick,sleep 1";
-    check(&format!("{link},lock 0 9,level 0,tick,lock 1 9"), "1 1 -,0 3 -,0 0 0,12 1 0");
-    // Nothing is lent through it: the waiter is lifted to 1, the owner stays at the ceiling.
-    let made = "task 9,task 6,task 1,mutex 2 4,mutex 1,start,sleep 2,sleep 1,lock 0 0,sleep 9";
-    let waits = "tick,lock 1 0,lock 0 9,tick,lock 1 9";
-    check(&format!("{made},{waits},level 0,level 1"), "1 2 -,0 4 -,0 1 -");
 }

@@ -6,17 +6,16 @@ use Rattle.machine.specs.Planned.{carried}
 use Rattle.record.specs.declared.State.{State}  -- keep
 use Rattle.record.specs.declared.Out.{Out}  -- keep
 use Rattle.record.specs.declared.Plan.{Plan}  -- keep
-use Rattle.record.specs.declared.Request.TheVariants.{Task, Mutex, CeilingMutex, Sem, Start, Lock, Unlock, Pend, Post, Flush, Sleep, Yield, Hold, Free, Tick, Level, Outcome, Queue, OwnedQueue, Send, Receive, Word}  -- keep
+use Rattle.record.specs.declared.Request.TheVariants.{Task, Mutex, Sem, Start, Lock, Unlock, Pend, Post, Flush, Sleep, Yield, Hold, Free, Tick, Level, Outcome, Queue, OwnedQueue, Send, Receive, Word}  -- keep
 use Rattle.calls.specs.declared.Asked.{Asked}  -- keep
 use Rattle.calls.specs.declared.Asked.TheVariants.{Step, Nothing}  -- keep
 
--- the steps by their codes, 0 to 21; a step that has fewer numbers leaves the others out of account
+-- the steps by their codes, 0 to 20; a step that has fewer numbers leaves the others out of account
 abbrev pub by_code : ℕ → ℕ → ℕ → List Asked
 by_code a b c =
     Step (Task a) ∷ Step (Mutex a) ∷ Step (Sem a b) ∷ Step Start ∷ Step (Lock a b) ∷ Step (Unlock a) ∷ Step (Pend a b) ∷ Step (Post a) ∷ Step (Flush a)
     ∷ Step (Sleep a) ∷ Step Yield ∷ Step Hold ∷ Step Free ∷ Step Tick ∷ Step (Level a) ∷ Step (Outcome a)
-    ∷ Step (Queue a b) ∷ Step (OwnedQueue a b c) ∷ Step (Send a b) ∷ Step (Receive a b) ∷ Step (Word a b)
-    ∷ Step (CeilingMutex a b) ∷ []
+    ∷ Step (Queue a b) ∷ Step (OwnedQueue a b c) ∷ Step (Send a b) ∷ Step (Receive a b) ∷ Step (Word a b) ∷ []
 
 -- what a code asks for: nothing where it is no step's
 unfoldable pub request_of : ℕ → ℕ → ℕ → ℕ → Asked

@@ -9,7 +9,7 @@ use Rattle.record.specs.GoodRecord.{Typed}
 use Rattle.record.specs.DemandRecordLaws.{refused_stays}
 use Rattle.record.specs.declared.Answer.{Answer}  -- keep
 use Rattle.record.specs.declared.Request.{Request}  -- keep
-use Rattle.record.specs.declared.Request.TheVariants.{Task, Mutex, CeilingMutex, Sem, Start, Lock, Unlock, Pend, Post, Flush, Sleep, Yield, Hold, Free, Tick, Level, Outcome, Queue, OwnedQueue, Send, Receive, Word}  -- keep
+use Rattle.record.specs.declared.Request.TheVariants.{Task, Mutex, Sem, Start, Lock, Unlock, Pend, Post, Flush, Sleep, Yield, Hold, Free, Tick, Level, Outcome, Queue, OwnedQueue, Send, Receive, Word}  -- keep
 use Rattle.machine.specs.Planned.{carried}
 use Rattle.moves.specs.declared.Move.TheVariants as nothing
 use Rattle.moves.specs.Moves.{words_after, block_after}
@@ -51,7 +51,6 @@ each_has_code (OwnedQueue w d o) = (17, w, d, o, refl)
 each_has_code (Send q t) = (18, q, t, 0, refl)
 each_has_code (Receive q t) = (19, q, t, 0, refl)
 each_has_code (Word i n) = (20, i, n, 0, refl)
-each_has_code (CeilingMutex k c) = (21, k, c, 0, refl)
 
 pub beyond : (code a b c : ℕ) → length (by_code a b c) ≤ code → request_of code a b c ≡ Nothing
 unfolding request_of

@@ -52,18 +52,14 @@ pub fn request_of(code: u32, a: u32, b: u32, c: u32) -> Asked
         18 => Request::Send { queue: a, time: b },
         19 => Request::Receive { queue: a, time: b },
         20 => Request::Word { task: a, n: b },
-        21 => Request::CeilingMutex {
-            kind: a,
-            ceiling: b,
-        },
         _ => return Asked::Nothing,
     };
     Asked::Step { request: request }
 }
 
-// What is asked for, on a record that is tested first: 14 for a code that names no step, a send without one to eight words or a mutex whose kind and
-// ceiling don't belong together, 15, or its step, before any word is moved. The message beside it has `count` words, the lent block `space`. It is
-// `kernel::plan` with its test, but not by calling that: each function that the record goes through by value is a copy of it.
+// What is asked for, on a record that is tested first: 14 for a code that names no step or a send without one to eight words, 15, or its step, before any
+// word is moved. The message beside it has `count` words, the lent block `space`. It is `kernel::plan` with its test, but not by calling that: each
+// function that the record goes through by value is a copy of it.
 pub fn call(s: State, x: Asked, count: usize, space: usize, words: &[u32]) -> Plan
     ensures { (m block : List ℕ) → length m ≡ count → length block ≡ space → carried (whole s words.now block) m result ≡ call_of (whole s words.now block) x m }
 {

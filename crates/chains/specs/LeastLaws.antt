@@ -4,7 +4,7 @@ use Rattle.std.proofs.Math.Path.{refl}
 use Rattle.std.proofs.Common.{ap}
 use Rattle.std.proofs.Math.Logic.{inl, inr}
 use Rattle.std.proofs.Math.Option.{Option, some}
-use Prim.Native.Nat.{ℕ, zero, suc, ◌+◌, ◌≤◌, ◌<◌, min}
+use Prim.Native.Nat.{ℕ, zero, suc, ◌+◌, ◌≤◌, ◌<◌}
 use native.Mathlib.Omega.{arith}
 use Rattle.std.proofs.Math.Decide.{ℕ_discrete, dec_le}
 use borrow.Author.Tests.{ltb-true, lt-ltb}
@@ -63,32 +63,6 @@ least_used n (suc most) p f d h out = elim (ℕ_discrete n (suc most)) [
   | yes e ↦ rw e refl
   | no q ↦ rw (out most (omega arith) (omega arith)) (least_used n most p f d (omega arith) (λ j a b. out j a (omega arith)))
 ]
-
--- a smaller start counts as one value more
-pub least_min : (n : ℕ) (p : ℕ → Bool) (f : ℕ → ℕ) (c d : ℕ) → least n p f (min c d) ≡ min c (least n p f d)
-unfolding least
-least_min zero p f c d = refl
-least_min (suc n) p f c d = elim (which (p n)) [ inl e ↦ rw (e, least_min n p f c d) (omega arith) | inr e ↦ rw e (least_min n p f c d) ]
-
--- numbers that pass but whose value is no less than the start change nothing
-pub least_only : (n : ℕ) (p q : ℕ → Bool) (f g : ℕ → ℕ) (d : ℕ) → ((j : ℕ) → j < n → q j ≡ true → (p j ≡ true) × (f j ≡ g j))
-    → ((j : ℕ) → j < n → p j ≡ true → ((q j ≡ true) × (f j ≡ g j)) ⊎ (d ≤ f j)) → least n p f d ≡ least n q g d
-least_only n p q f g d to back = omega (arith, low, high)
-  where
-    low : least n p f d ≤ least n q g d
-    low = elim (least_att q g d n) [
-      | inl e ↦ omega (arith, least_start p f d n)
-      | inr r ↦ (let a = to r.0 r.1 r.2 in omega (arith, least_low p f d n r.0 r.1 a.0, a.1))
-    ]
-
-    high : least n q g d ≤ least n p f d
-    high = elim (least_att p f d n) [
-      | inl e ↦ omega (arith, least_start q g d n)
-      | inr r ↦ elim (back r.0 r.1 r.2) [
-        | inl a ↦ omega (arith, least_low q g d n r.0 r.1 a.0, a.1)
-        | inr a ↦ omega (arith, least_start q g d n)
-      ]
-    ]
 
 module _ {n : ℕ} {next : ℕ → Option ℕ} (s : Ended n next) where
   at_start : (j : ℕ) → j < n → (k : ℕ) → some j ≡ some k → k < n

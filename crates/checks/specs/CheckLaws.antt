@@ -25,10 +25,10 @@ use Rattle.record.specs.Reads.{owner_at}
 use Rattle.record.specs.GoodRecord.{Typed, WordsTyped}
 use Rattle.record.specs.Whole.{whole}
 use Rattle.record.specs.TidyLaws.{tasks_fit, mutexes_fit, semaphores_fit, queues_fit, ready_fits, waiting_fits, running_or, unused_at_lem}
-use Rattle.record.specs.ViewLaws.{stored_level, owner_id, unused_owner, view_tasks_lem, view_outcomes, view_waits, view_mutexes_lem, view_kinds, view_ceilings, view_semaphores_lem, view_maxima, view_outcome, view_owner, view_queues_lem, view_widths, view_depths, view_message_lists, view_word_lists}
+use Rattle.record.specs.ViewLaws.{stored_level, owner_id, unused_owner, view_tasks_lem, view_outcomes, view_waits, view_mutexes_lem, view_kinds, view_semaphores_lem, view_maxima, view_outcome, view_owner, view_queues_lem, view_widths, view_depths, view_message_lists, view_word_lists}
 use Rattle.checks.specs.Checks.{sizes_in, unused_at, tasks_in, objects_in, tables_in, waits_in, started_in, free_at, at_rest, set_up_in, checks}
 use Rattle.checks.specs.TidyCheckLaws.{checks_tidy, tidy_sizes, tidy_unused, tidy_waits}
-use Rattle.checks.specs.TableCheckLaws.{no_id_lem, used_tasks, used_mutexes, priorities_same, times_same, outcomes_same, owner_read, mutexes_same, owners_same, counts_same, lists_same, blocked_same}
+use Rattle.checks.specs.TableCheckLaws.{no_id_lem, used_tasks, used_mutexes, priorities_same, times_same, outcomes_same, owner_read, mutexes_same, counts_same, lists_same, blocked_same}
 use Rattle.checks.specs.QueueCheckLaws.{queues_checked, owners_checked, checked_queues, words_checked, empty_same, zero_same}
 use Rattle.checks.specs.PlaceCheckLaws.{places_same, waiting_view, places_view}
 use Rattle.checks.specs.LevelCheckLaws.{ringless_ring, facts_ringless, levels_same}
@@ -110,7 +110,7 @@ tidy_of k ws space T c₀ =
     let table = and_l _ _ c₀ in
     let c₁ = and_r _ _ table in
     let c₂ = and_r _ _ c₁ in
-    let c₃ = and_r _ _ (and_r _ _ c₂) in
+    let c₃ = and_r _ _ c₂ in
     let c₄ = and_r _ _ c₃ in
     true_and _ _ (checks_tidy k space T (and_l _ _ table) (and_l _ _ c₁) (and_l _ _ c₂) (and_l _ _ c₃) (and_r _ _ c₄)) (and_l _ _ c₄)
 
@@ -126,8 +126,7 @@ module _ (k : State) (ws b : List ℕ) (T : Typed k) (tidy : tidyb k ≡ true) (
       (true_and _ _ (eq-eqb _ _ (view_word_lists k ws b T tidy ∙ sym (view_tasks_lem k ws b T tidy)))
       (true_and _ _ (eq-eqb _ _ (view_widths k ws b T tidy ∙ sym (view_queues_lem k ws b T tidy)))
       (true_and _ _ (eq-eqb _ _ (view_depths k ws b T tidy ∙ sym (view_queues_lem k ws b T tidy)))
-      (true_and _ _ (eq-eqb _ _ (view_message_lists k ws b T tidy ∙ sym (view_queues_lem k ws b T tidy)))
-      (eq-eqb _ _ (view_ceilings k ws b T tidy ∙ sym (view_mutexes_lem k ws b T tidy))))))))))
+      (eq-eqb _ _ (view_message_lists k ws b T tidy ∙ sym (view_queues_lem k ws b T tidy)))))))))
 
   sizes_true : sizesb (view_tables (whole k ws b)) ≡ true
   unfolding sizesb
@@ -201,8 +200,7 @@ module _ (k : State) (ws b : List ℕ) (T : Typed k) (tidy : tidyb k ≡ true) (
       let table = and_l _ _ c₀ in
       let c₁ = and_r _ _ table in
       let c₂ = and_r _ _ c₁ in
-      let o₃ = and_r _ _ c₂ in
-      let c₃ = and_r _ _ o₃ in
+      let c₃ = and_r _ _ c₂ in
       let c₄ = and_r _ _ c₀ in
       let c₅ = and_r _ _ c₄ in
       let c₆ = and_r _ _ c₅ in
@@ -211,16 +209,13 @@ module _ (k : State) (ws b : List ℕ) (T : Typed k) (tidy : tidyb k ≡ true) (
       let task = and_r _ _ (and_l _ _ c₁) in
       let times = and_r _ _ (and_r _ _ task) in
       let object = and_l _ _ c₂ in
-      let o₁ = and_r _ _ object in
-      let mutex = sym (mutexes_same k ws b T tidy) ∙ true_and _ _ (and_l _ _ object) (and_l _ _ o₁) in
+      let mutex = sym (mutexes_same k ws b T tidy) ∙ and_l _ _ object in
       let queue = and_l _ _ c₃ in
       let lists = sym (lists_same k ws b T tidy) ∙ and_r _ _ (and_r _ _ c₃) in
       let listed = and_l _ _ lists in
       let spots = sym (places_same k ws b T tidy listed (and_r _ _ lists)) ∙ and_l _ _ c₄ in
       let wait = and_l _ _ c₅ in
-      let w₁ = and_r _ _ wait in
-      let w₂ = and_r _ _ w₁ in
-      let blocked = sym (blocked_same k ws b T tidy words_typed) ∙ true_and _ _ (and_l _ _ wait) (true_and _ _ (and_l _ _ w₁) (and_l _ _ w₂)) in
+      let blocked = sym (blocked_same k ws b T tidy words_typed) ∙ true_and _ _ (and_l _ _ wait) (and_l _ _ (and_r _ _ wait)) in
       let owners = true_and _ _ (and_r _ _ mutex) (owners_checked k ws b T tidy queue) in
       let tables =
       true_and _ _ columns_true
@@ -230,12 +225,10 @@ module _ (k : State) (ws b : List ℕ) (T : Typed k) (tidy : tidyb k ≡ true) (
       (true_and _ _ (and_l _ _ blocked)
       (true_and _ _ (sym (times_same k ws b T tidy) ∙ and_l _ _ times)
       (true_and _ _ owners
-      (true_and _ _ (ringless_ring k ws b T tidy owners (and_r _ _ w₂))
-      (true_and _ _ (sym (counts_same k ws b T tidy) ∙ and_r _ _ o₁)
+      (true_and _ _ (ringless_ring k ws b T tidy owners (and_r _ _ (and_r _ _ wait)))
+      (true_and _ _ (sym (counts_same k ws b T tidy) ∙ and_r _ _ object)
       (true_and _ _ (sym (outcomes_same k ws b T tidy) ∙ and_r _ _ times)
-      (true_and _ _ (queues_checked k ws b T tidy queue)
-      (true_and _ _ (words_checked k ws b T tidy words_typed)
-      (true_and _ _ (and_r _ _ blocked) (sym (owners_same k ws b T tidy (and_r _ _ mutex)) ∙ and_l _ _ o₃))))))))))))) in
+      (true_and _ _ (queues_checked k ws b T tidy queue) (true_and _ _ (words_checked k ws b T tidy words_typed) (and_r _ _ blocked)))))))))))) in
       let stored = sym (levels_same k ws b T tidy (tables_facts (view_tables (whole k ws b)) tables)) ∙ and_l _ _ c₆ in
       true_and _ _ stored
       (true_and _ _ tables
@@ -257,7 +250,6 @@ module _ (k : State) (ws b : List ℕ) (T : Typed k) (tidy : tidyb k ≡ true) (
       let t₈ = and_r _ _ (and_r _ _ t₆) in
       let t₉ = and_r _ _ t₈ in
       let t₁₀ = and_r _ _ t₉ in
-      let t₁₂ = and_r _ _ (and_r _ _ t₁₀) in
       let F = tables_facts (view_tables (whole k ws b)) (and_l _ _ s₀) in
       let stored = and_l _ _ e in
       let waits = sym (waiting_view k ws b T tidy) ∙ and_l _ _ t₃ in
@@ -265,20 +257,17 @@ module _ (k : State) (ws b : List ℕ) (T : Typed k) (tidy : tidyb k ≡ true) (
       let listed = and_l _ _ spots in
       let runner = and_l _ _ (and_r _ _ spots) in
       let owners = and_l _ _ t₆ in
-      let mutex = mutexes_same k ws b T tidy ∙ true_and _ _ (and_r _ _ (and_l _ _ t₂)) (and_l _ _ owners) in
-      let blocked = blocked_same k ws b T tidy words_typed ∙ true_and _ _ (and_l _ _ t₄) (and_l _ _ t₁₂) in
-      let b₁ = and_r _ _ blocked in
+      let blocked = blocked_same k ws b T tidy words_typed ∙ true_and _ _ (and_l _ _ t₄) (and_r _ _ (and_r _ _ t₁₀)) in
       true_and _ _ (true_and _ _ (tidy_sizes k tidy runner)
       (true_and _ _ (true_and _ _ (tidy_unused k tidy)
       (true_and _ _ (priorities_same k ws b T tidy ∙ and_l _ _ (and_l _ _ t₂))
       (true_and _ _ (tidy_waits k tidy)
       (true_and _ _ (times_same k ws b T tidy ∙ and_l _ _ t₅) (outcomes_same k ws b T tidy ∙ and_l _ _ t₉)))))
-      (true_and _ _ (true_and _ _ (and_l _ _ mutex) (true_and _ _ (and_r _ _ mutex) (counts_same k ws b T tidy ∙ and_l _ _ t₈)))
-      (true_and _ _ (owners_same k ws b T tidy (and_l _ _ owners) ∙ and_r _ _ t₁₂)
+      (true_and _ _ (true_and _ _ (mutexes_same k ws b T tidy ∙ true_and _ _ (and_r _ _ (and_l _ _ t₂)) (and_l _ _ owners)) (counts_same k ws b T tidy ∙ and_l _ _ t₈))
       (true_and _ _ (checked_queues k ws b T tidy (and_l _ _ t₁₀) (and_r _ _ owners))
-      (true_and _ _ held (lists_same k ws b T tidy ∙ true_and _ _ listed (and_l _ _ waits))))))))
+      (true_and _ _ held (lists_same k ws b T tidy ∙ true_and _ _ listed (and_l _ _ waits)))))))
       (true_and _ _ (places_same k ws b T tidy listed (and_l _ _ waits) ∙ true_and _ _ (and_r _ _ waits) (and_r _ _ (and_r _ _ spots)))
-      (true_and _ _ (true_and _ _ (and_l _ _ blocked) (true_and _ _ (and_l _ _ b₁) (true_and _ _ (and_r _ _ b₁) (facts_ringless k ws b T tidy F))))
+      (true_and _ _ (true_and _ _ (and_l _ _ blocked) (true_and _ _ (and_r _ _ blocked) (facts_ringless k ws b T tidy F)))
       (true_and _ _ (levels_same k ws b T tidy F ∙ stored)
       (true_and _ _ (ascending_same stored listed runner ∙ and_l _ _ s₂) (phase_same stored listed runner ∙ and_r _ _ s₂)))))
 

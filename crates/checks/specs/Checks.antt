@@ -5,14 +5,14 @@ use Rattle.lists.specs.Test.{◌and◌, ◌or◌, allb}
 use Rattle.lists.specs.Order.{ascb, tiesb}
 use Rattle.lists.specs.Table.{filled}
 use Rattle.chains.specs.Chain.{endsb}
-use Rattle.rules.specs.Sizes.{task_places, max_mutexes, max_semaphores, max_queues, held_words, levels, kinds, ceiling_kind, max_ticks, granted, pending, timed_out, flushed, on_mutex, on_semaphore, on_time, on_send, on_receive}
+use Rattle.rules.specs.Sizes.{task_places, max_mutexes, max_semaphores, max_queues, held_words, levels, kinds, max_ticks, granted, pending, timed_out, flushed, on_mutex, on_semaphore, on_time, on_send, on_receive}
 use Rattle.rules.specs.Sound.{is_width, is_depth}
 use Rattle.rings.specs.Starts.{start_in}
 use Rattle.rules.specs.Levels.{next}
 use Rattle.task_lists.specs.TaskList.{no_id, items, key_of, counted, id_fits_at}
 use Rattle.walks.specs.Walk.{task_at, next_in, lent_by}
 use Rattle.record.specs.Record.{ticks_left}
-use Rattle.record.specs.Reads.{led_by, heir_at, own_levels, first_id}
+use Rattle.record.specs.Reads.{led_by, heir_at, first_id}
 use Rattle.record.specs.SoundRecord.{is_object_wait, words_tidyb}
 use Rattle.record.specs.declared.State.{State}  -- keep
 use Rattle.record.specs.declared.Tasks.{Tasks}  -- keep
@@ -90,13 +90,6 @@ mutex_fits used tasks kind owner = cond used (ltb kind kinds and (eqb owner no_i
 abbrev pub mutex_fits_at : List ℕ → List ℕ → ℕ → ℕ → ℕ → Bool
 mutex_fits_at kinds owners n tasks j = mutex_fits (ltb j n) tasks (get_or kinds j 0) (get_or owners j 0)
 
--- its ceiling: document 02, K4, "kind 2: `mutex 2 c`, with ceiling c from 0 to 31"; the other kinds have none, nor has an unused mutex, whose kind is 0
-unfoldable pub ceiling_fits : ℕ → ℕ → Bool
-ceiling_fits kind ceiling = cond (eqb kind ceiling_kind) (ltb ceiling levels) (eqb ceiling no_id)
-
-abbrev pub ceiling_fits_at : Mutexes → ℕ → Bool
-ceiling_fits_at m j = ceiling_fits (get_or m.kind j 0) (get_or m.ceiling j 0)
-
 -- a semaphore: its count at most its maximum, and that at least 1; an unused one is as in the fresh record
 unfoldable pub sem_fits : Bool → ℕ → ℕ → Bool
 sem_fits used count maximum = cond used (leb count maximum and ltb 0 maximum) (eqb count 0 and eqb maximum 0)
@@ -105,24 +98,7 @@ abbrev pub sem_fits_at : List ℕ → List ℕ → ℕ → ℕ → Bool
 sem_fits_at counts maxima n j = sem_fits (ltb j n) (get_or counts j 0) (get_or maxima j 0)
 
 unfoldable pub objects_in : Mutexes → Semaphores → ℕ → Bool
-objects_in m c tasks = allb max_mutexes (mutex_fits_at m.kind m.owner m.n tasks) and allb max_mutexes (ceiling_fits_at m)
-    and allb max_semaphores (sem_fits_at c.count c.maximum c.n)
-
--- document 02, K4: "No owner or waiter of one has an own priority smaller than c, in a sound state too": a ceiling by its number, and a priority
-unfoldable pub is_within : ℕ → ℕ → Bool
-is_within ceiling priority = eqb ceiling no_id or leb ceiling priority
-
--- a mutex's owner; where there is none, whatever priority is read
-unfoldable pub owner_allowed : ℕ → ℕ → ℕ → Bool
-owner_allowed owner ceiling priority = eqb owner no_id or is_within ceiling priority
-
-abbrev pub owner_allowed_at : List ℕ → Mutexes → ℕ → Bool
-owner_allowed_at priorities m j =
-    let owner = get_or m.owner j 0 in
-    owner_allowed owner (get_or m.ceiling j 0) (get_or priorities (owner % task_places) 0)
-
-unfoldable pub owners_allowed : List ℕ → Mutexes → Bool
-owners_allowed priorities m = allb max_mutexes (owner_allowed_at priorities m)
+objects_in m c tasks = allb max_mutexes (mutex_fits_at m.kind m.owner m.n tasks) and allb max_semaphores (sem_fits_at c.count c.maximum c.n)
 
 -- a queue: its width and depth in range, its owner one of the tasks, its oldest message in its ring, and no more messages than there is room for; an
 -- unused one is as in the fresh record
@@ -173,16 +149,6 @@ empty_at counts j = cond (eqb (get_or counts j 0) 0) 1 0
 abbrev pub at_object : List ℕ → List ℕ → ℕ → ℕ
 at_object objects table i = get_or table (get_or objects i 0 % max_semaphores) 0
 
--- who waits for a mutex, by a table of the ceilings at each task's object
-unfoldable pub waiter_allowed : ℕ → ℕ → ℕ → Bool
-waiter_allowed kind ceiling priority = not (eqb kind on_mutex) or is_within ceiling priority
-
-abbrev pub waiter_allowed_at : List ℕ → List ℕ → List ℕ → ℕ → Bool
-waiter_allowed_at waits ceilings priorities i = waiter_allowed (get_or waits i 0) (get_or ceilings i 0) (get_or priorities i 0)
-
-unfoldable pub waiters_allowed : List ℕ → List ℕ → List ℕ → Mutexes → Bool
-waiters_allowed waits objects priorities m = allb task_places (waiter_allowed_at waits (filled task_places (at_object objects m.ceiling)) priorities)
-
 -- the words of task i past the first w are 0
 abbrev pub past_at : List ℕ → ℕ → ℕ → Bool
 past_at words i w = allb held_words (λ n. ltb n w or eqb (get_or words (held_words * i + n) 0) 0)
@@ -220,12 +186,11 @@ ringless waits objects m x =
     let next = filled task_places (λ i. led_by m.owner x.owner (get_or waits i 0) (get_or objects i 0)) in
     allb max_mutexes (λ j. endsb task_places (next_in next) (task_at (get_or m.owner j 0))) and allb max_queues (λ j. endsb task_places (next_in next) (task_at (get_or x.owner j 0)))
 
--- waits are for what isn't available, by who may wait for it, and close no ring
-unfoldable pub waits_in : List ℕ → List ℕ → List ℕ → Mutexes → Semaphores → Queues → List ℕ → Bool
-waits_in waits objects priorities m c x words =
-    blocked_in waits objects m c and waiters_allowed waits objects priorities m and queue_waits_in waits objects x words and ringless waits objects m x
+-- waits are for what isn't available, and close no ring
+unfoldable pub waits_in : List ℕ → List ℕ → Mutexes → Semaphores → Queues → List ℕ → Bool
+waits_in waits objects m c x words = blocked_in waits objects m c and queue_waits_in waits objects x words and ringless waits objects m x
 
--- stored levels: each is the least of the level by itself and of the stored levels that are lent to the task
+-- stored levels: each is the least of the own priority and of the stored levels that are lent to the task
 abbrev pub same_at : List ℕ → List ℕ → ℕ → Bool
 same_at a b i = eqb (get_or a i 0) (get_or b i 0)
 
@@ -252,18 +217,18 @@ set_up_in owners outcomes ready levels used words =
     allb max_mutexes (free_at owners) and allb task_places (unused_at outcomes 0) and allb max_queues (unused_at used 0) and allb (held_words * task_places) (unused_at words 0)
     and tiesb (key_of levels) (items ready)
 
--- the tables and lists, each by itself, and owners against priorities
+-- the tables and lists, each by itself
 unfoldable pub tables_in : State → List ℕ → ℕ → Bool
-tables_in k words space = sizes_in k and tasks_in k.tasks k.clock and objects_in k.mutexes k.semaphores k.tasks.n and owners_allowed k.tasks.priority k.mutexes
-    and queues_in k.queues k.tasks.n space and words_tidyb words k.tasks.n and lists_in k.ready k.waiting k.tasks.n
+tables_in k words space = sizes_in k and tasks_in k.tasks k.clock and objects_in k.mutexes k.semaphores k.tasks.n and queues_in k.queues k.tasks.n space
+    and words_tidyb words k.tasks.n and lists_in k.ready k.waiting k.tasks.n
 
 -- all phrases, in an order in which each can rely on those before it
 unfoldable pub checks : State → List ℕ → ℕ → Bool
 checks k words space =
     let t = k.tasks in
     tables_in k words space and places_in t.wait k.ready k.waiting t.n k.running
-    and waits_in t.wait t.object t.priority k.mutexes k.semaphores k.queues words
-    and levels_in (own_levels t k.mutexes) t.level t.wait t.object k.mutexes k.queues
+    and waits_in t.wait t.object k.mutexes k.semaphores k.queues words
+    and levels_in t.priority t.level t.wait t.object k.mutexes k.queues
     and ascb (key_of t.level) (items k.ready) and cond (eqb k.started 0)
     (at_rest k.clock k.hold k.running k.waiting.n and set_up_in k.mutexes.owner t.outcome k.ready t.level k.queues.used words)
     (started_in t.level k.ready k.running k.hold)

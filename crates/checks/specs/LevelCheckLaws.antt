@@ -1,14 +1,11 @@
 -- The code's own test of rings and of stored levels. It follows the chains of owners only, since every chain is one from its second task on.
 -- It tests levels by their recursive wording, one link far, which tells the levels where no chain is a ring.
-use Rattle.std.specs.Prelude.{◌≡◌, refl, List, ℕ, ◌≤◌, ◌<◌}
+use Rattle.std.specs.Prelude.{◌≡◌, refl, List, ℕ, ◌≤◌, ◌<◌, get_or}
 use Rattle.std.proofs.Math.Path.{ap, sym}
-use Rattle.std.proofs.Common.{◌∙◌, inl, inr}
+use Rattle.std.proofs.Common.{◌∙◌, inl, inr, arith}
 use Rattle.std.proofs.Math.Bool.{true}
 use Rattle.std.proofs.Math.Option.{Option, none, some}
-use native.Mathlib.Omega.{arith}
 use Rattle.std.proofs.Math.Decide.{dec_lt}
-use Rattle.std.proofs.Math.Dec.{eqb}
-use Rattle.std.proofs.Math.ListN.{get_or}
 use borrow.Author.Tests.{eqb-true, eq-eqb}
 use Rattle.lists.specs.Test.{allb, holds}
 use Rattle.lists.specs.Table.{filled}
@@ -18,22 +15,22 @@ use Rattle.chains.specs.Least.{least, Recursive}
 use Rattle.chains.specs.ChainLaws.{chain_short, ends_true, true_ends, ends_none}
 use Rattle.chains.specs.LeastLaws.{least_start}
 use Rattle.rules.specs.Sizes.{task_places, max_mutexes, max_queues}
-use Rattle.rules.specs.Tables.{Tables, task_count, wait_of, owner_of, queue_owner_of}
-use Rattle.rules.specs.Levels.{owner_awaited, of_wait, next, lends, own_level, level_in}
+use Rattle.rules.specs.Tables.{Tables, task_count, priority_of, wait_of, owner_of, queue_owner_of}
+use Rattle.rules.specs.Levels.{owner_awaited, of_wait, next, lends, level_in}
 use Rattle.rules.specs.Sound.{ownersb, no_ringb}
 use Rattle.rules.specs.Invariant.{Facts}
 use Rattle.rules.specs.SoundLaws.{owner_there, queue_owner_there}
 use Rattle.rules.specs.LevelLaws.{of_wait_lem, owner_awaited_lem, next_ended, level_recursive, level_only}
 use Rattle.task_lists.specs.TaskList.{key_of}
 use Rattle.walks.specs.Walk.{task_at, next_in, lent_by}
-use Rattle.walks.specs.WalkLaws.{ends_ext, least_ext, get_d_lent_by, lent_ext}
+use Rattle.walks.specs.WalkLaws.{ends_ext, least_ext, lent_ext}
 use Rattle.record.specs.Record.{view_tables}
 use Rattle.record.specs.SoundRecord.{tidyb, levelsb}
-use Rattle.record.specs.Reads.{next_at, lends_at, own_levels}
+use Rattle.record.specs.Reads.{next_at, lends_at}
 use Rattle.record.specs.Whole.{whole}
 use Rattle.record.specs.GoodRecord.{Typed}
 use Rattle.record.specs.TidyLaws.{tasks_fit, mutexes_fit, queues_fit, unused_at_lem}
-use Rattle.record.specs.ViewLaws.{stored_level, unused_owner, view_tasks_lem, view_priority, view_wait_out, view_owner, unused_queue_owner, view_queue_owner, next_same, lends_same, own_view}
+use Rattle.record.specs.ViewLaws.{stored_level, unused_owner, view_tasks_lem, view_priority, view_wait_out, view_owner, unused_queue_owner, view_queue_owner, next_same, lends_same}
 use Rattle.checks.specs.Checks.{ringless, same_at, levels_in}
 use Rattle.checks.specs.TableCheckLaws.{owner_read, queue_owner_any}
 use Rattle.record.specs.declared.State.{State}  -- keep
@@ -95,59 +92,49 @@ module _ (k : State) (ws b : List ℕ) (T : Typed k) (tidy : tidyb k ≡ true) w
       (true_all max_mutexes _ (λ j h. ends_same j h ∙ ring_owners (view_tables (whole k ws b)) F (owner_of (view_tables (whole k ws b)) j) (F.owners j)))
       (true_all max_queues _ (λ j h. queue_ends_same j h ∙ ring_owners (view_tables (whole k ws b)) F (queue_owner_of (view_tables (whole k ws b)) j) (F.owned_queues j)))
 
-  -- the least of the level of i by itself and of the stored levels that are lent to i by one link
+  -- the least of the own priority of i and of the stored levels that are lent to i by one link
   abbrev lent_levels : List ℕ
-  lent_levels = lent_by (own_levels k.tasks k.mutexes) (filled task_places (lends_at k.tasks k.mutexes k.queues)) k.tasks.level task_places
+  lent_levels = lent_by k.tasks.priority (filled task_places (lends_at k.tasks k.mutexes k.queues)) k.tasks.level task_places
 
   lent_at : (i : ℕ) → i < task_places
-      → key_of lent_levels i ≡ least k.tasks.n (λ j. holds (lends (view_tables (whole k ws b)) j) i) (key_of k.tasks.level) (key_of (own_levels k.tasks k.mutexes) i)
+      → key_of lent_levels i ≡ least k.tasks.n (λ j. holds (lends (view_tables (whole k ws b)) j) i) (key_of k.tasks.level) (key_of k.tasks.priority i)
   unfolding lends of_wait
-  lent_at i h = lent_ext (own_levels k.tasks k.mutexes) (filled task_places (lends_at k.tasks k.mutexes k.queues)) k.tasks.level k.tasks.n (lends (view_tables (whole k ws b)))
+  lent_at i h = lent_ext k.tasks.priority (filled task_places (lends_at k.tasks k.mutexes k.queues)) k.tasks.level k.tasks.n (lends (view_tables (whole k ws b)))
       (tasks_fit k tidy) (lends_same k ws b T tidy) (λ j q. rw (view_wait_out k ws b T tidy j q) refl) i h
 
   -- behind the last task the level is 0, and so is what it is held to, which is at most the own priority
-  own_most : (i : ℕ) → i < task_places → key_of (own_levels k.tasks k.mutexes) i ≤ key_of k.tasks.priority i
-  unfolding own_levels
-  own_most i h = omega (
-    arith,
-    get_d_lent_by k.tasks.priority k.mutexes.owner k.mutexes.ceiling max_mutexes i h,
-    least_start (λ j. eqb (get_or k.mutexes.owner j 0) i) (λ j. get_or k.mutexes.ceiling j 0) (key_of k.tasks.priority i) max_mutexes,
-  )
-
   lent_unused : (i : ℕ) → k.tasks.n ≤ i → i < task_places → key_of k.tasks.level i ≡ key_of lent_levels i
   lent_unused i h l = omega (
     arith,
     lent_at i l,
-    least_start (λ j. holds (lends (view_tables (whole k ws b)) j) i) (key_of k.tasks.level) (key_of (own_levels k.tasks k.mutexes) i) k.tasks.n,
-    own_most i l,
+    least_start (λ j. holds (lends (view_tables (whole k ws b)) j) i) (key_of k.tasks.level) (key_of k.tasks.priority i) k.tasks.n,
     (unused_at_lem k tidy i h l).no_priority,
     (unused_at_lem k tidy i h l).no_level,
   )
 
-  module _ (F : Facts (view_tables (whole k ws b))) where
-    lent_used : (i : ℕ) → i < k.tasks.n
-        → key_of lent_levels i ≡ least (task_count (view_tables (whole k ws b))) (λ j. holds (lends (view_tables (whole k ws b)) j) i) (key_of k.tasks.level) (own_level (view_tables (whole k ws b)) i)
-    lent_used i h = rw (view_tasks_lem k ws b T tidy, ← own_view k ws b T tidy i h (omega (arith, F.priorities i (omega (arith, view_tasks_lem k ws b T tidy)), view_priority k ws b T tidy i h))) (lent_at i (omega (arith, tasks_fit k tidy)))
+  lent_used : (i : ℕ) → i < k.tasks.n
+      → key_of lent_levels i ≡ least (task_count (view_tables (whole k ws b))) (λ j. holds (lends (view_tables (whole k ws b)) j) i) (key_of k.tasks.level) (priority_of (view_tables (whole k ws b)) i)
+  lent_used i h = rw (view_tasks_lem k ws b T tidy, view_priority k ws b T tidy i h) (lent_at i (omega (arith, tasks_fit k tidy)))
 
-    -- only the levels as defined are the least of the level by itself and of what one link lends
-    pub levels_same : levels_in (own_levels k.tasks k.mutexes) k.tasks.level k.tasks.wait k.tasks.object k.mutexes k.queues ≡ levelsb (whole k ws b)
-    unfolding levels_in levelsb
-    levels_same = same_test _ _
-        (λ e. true_all k.tasks.n _ (λ i h. eq-eqb _ _ (level_only (view_tables (whole k ws b)) F (key_of k.tasks.level) (recursive e) i (omega (arith, view_tasks_lem k ws b T tidy)))))
-        (λ e. true_all task_places _ (λ i l. eq-eqb (key_of k.tasks.level i) (key_of lent_levels i) (elim (dec_lt i k.tasks.n) [
-          | yes h ↦ least_of_lem e i h ∙ sym (lent_used i h)
-          | no h ↦ lent_unused i (omega arith) l
-        ])))
-      where
-        recursive : allb task_places (same_at k.tasks.level lent_levels) ≡ true → Recursive (task_count (view_tables (whole k ws b))) (lends (view_tables (whole k ws b))) (own_level (view_tables (whole k ws b))) (key_of k.tasks.level)
-        recursive e i h =
-            let q : i < k.tasks.n = omega (arith, view_tasks_lem k ws b T tidy) in
-            eqb-true _ _ (all_true task_places (same_at k.tasks.level lent_levels) e i (omega (arith, tasks_fit k tidy))) ∙ lent_used i q
+  -- only the levels as defined are the least of the own priority and of what one link lends
+  pub levels_same : Facts (view_tables (whole k ws b)) → levels_in k.tasks.priority k.tasks.level k.tasks.wait k.tasks.object k.mutexes k.queues ≡ levelsb (whole k ws b)
+  unfolding levels_in levelsb
+  levels_same F = same_test _ _
+      (λ e. true_all k.tasks.n _ (λ i h. eq-eqb _ _ (level_only (view_tables (whole k ws b)) F (key_of k.tasks.level) (recursive e) i (omega (arith, view_tasks_lem k ws b T tidy)))))
+      (λ e. true_all task_places _ (λ i l. eq-eqb (key_of k.tasks.level i) (key_of lent_levels i) (elim (dec_lt i k.tasks.n) [
+        | yes h ↦ least_of_lem e i h ∙ sym (lent_used i h)
+        | no h ↦ lent_unused i (omega arith) l
+      ])))
+    where
+      recursive : allb task_places (same_at k.tasks.level lent_levels) ≡ true → Recursive (task_count (view_tables (whole k ws b))) (lends (view_tables (whole k ws b))) (priority_of (view_tables (whole k ws b))) (key_of k.tasks.level)
+      recursive e i h =
+          let q : i < k.tasks.n = omega (arith, view_tasks_lem k ws b T tidy) in
+          eqb-true _ _ (all_true task_places (same_at k.tasks.level lent_levels) e i (omega (arith, tasks_fit k tidy))) ∙ lent_used i q
 
-        least_of_lem : levelsb (whole k ws b) ≡ true → (i : ℕ) → i < k.tasks.n
-            → key_of k.tasks.level i ≡ least (task_count (view_tables (whole k ws b))) (λ j. holds (lends (view_tables (whole k ws b)) j) i) (key_of k.tasks.level) (own_level (view_tables (whole k ws b)) i)
-        least_of_lem e i h =
-            stored_level k ws b e i h
-            ∙ level_recursive (view_tables (whole k ws b)) F i (omega (arith, view_tasks_lem k ws b T tidy))
-            ∙ least_ext (task_count (view_tables (whole k ws b))) (λ j. holds (lends (view_tables (whole k ws b)) j) i) (level_in (view_tables (whole k ws b))) (key_of k.tasks.level) (own_level (view_tables (whole k ws b)) i)
-            (λ j q. sym (stored_level k ws b e j (omega (arith, view_tasks_lem k ws b T tidy))))
+      least_of_lem : levelsb (whole k ws b) ≡ true → (i : ℕ) → i < k.tasks.n
+          → key_of k.tasks.level i ≡ least (task_count (view_tables (whole k ws b))) (λ j. holds (lends (view_tables (whole k ws b)) j) i) (key_of k.tasks.level) (priority_of (view_tables (whole k ws b)) i)
+      least_of_lem e i h =
+          stored_level k ws b e i h
+          ∙ level_recursive (view_tables (whole k ws b)) F i (omega (arith, view_tasks_lem k ws b T tidy))
+          ∙ least_ext (task_count (view_tables (whole k ws b))) (λ j. holds (lends (view_tables (whole k ws b)) j) i) (level_in (view_tables (whole k ws b))) (key_of k.tasks.level) (priority_of (view_tables (whole k ws b)) i)
+          (λ j q. sym (stored_level k ws b e j (omega (arith, view_tasks_lem k ws b T tidy))))

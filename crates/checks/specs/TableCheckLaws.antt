@@ -10,28 +10,26 @@ use native.Mathlib.Omega.{arith}
 use Rattle.std.proofs.Math.Decide.{dec_lt}
 use Rattle.std.proofs.Math.Dec.{ltb, eqb}
 use Rattle.std.proofs.Math.ListN.{get_or}
-use borrow.Author.Tests.{ltb-true, leb-true, eqb-true, lt-ltb, le-ltb, eq-eqb, ne_eqb}
+use borrow.Author.Tests.{ltb-true, leb-true, eqb-true, lt-ltb, le-ltb, ne_eqb}
 use Rattle.lists.specs.Test.{◌and◌, ◌or◌, allb, someb}
 use Rattle.lists.specs.Order.{inside}
-use Rattle.lists.specs.TestLaws.{which, clash, and_l, and_r, true_and, or_true, or_l, all_true, same_test, and_same, all_same, all_used, all_and}
-use Rattle.lists.specs.Table.{filled}
-use Rattle.lists.specs.TableLaws.{read_any, get_d_filled}
-use Rattle.rules.specs.Sizes.{held_words, on_send, on_receive, task_places, max_mutexes, max_semaphores, max_queues, levels, kinds, ceiling_kind, max_ticks, on_mutex, on_semaphore, on_time}
-use Rattle.rules.specs.Tables.{queue_count, words_of, width_of, depth_of, queue_owner_of, messages_of, awaited_kind, Tables, task_count, mutex_count, sem_count, priority_of, kind_of, ceiling_of, owner_of, count_of, wait_of, withinb, may_own}
-use Rattle.rules.specs.Sound.{mutexb, owns_rightlyb, ceilingsb, is_own, pastb, suitsb, suitedb, waits_suitb, unavailableb, leftb, blockedb, timedb, waitersb, timesb, existsb, countsb, outcomeb, outcomesb}
-use Rattle.rules.specs.SoundLaws.{exists_true}
+use Rattle.lists.specs.TestLaws.{which, and_l, and_r, true_and, or_true, same_test, and_same, all_same, all_used, all_and}
+use Rattle.lists.specs.TableLaws.{read_any}
+use Rattle.rules.specs.Sizes.{held_words, on_send, on_receive, task_places, max_mutexes, max_semaphores, max_queues, levels, kinds, max_ticks, on_mutex, on_semaphore, on_time}
+use Rattle.rules.specs.Tables.{queue_count, words_of, width_of, depth_of, queue_owner_of, messages_of, awaited_kind, Tables, task_count, mutex_count, sem_count, priority_of, kind_of, owner_of, count_of, wait_of}
+use Rattle.rules.specs.Sound.{is_own, pastb, suitsb, queuedb, queue_waitsb, unavailableb, leftb, blockedb, timedb, waitersb, timesb, existsb, countsb, outcomeb, outcomesb}
 use Rattle.task_lists.specs.TaskList.{places, no_id, items, key_of, id_fits_at}
 use Rattle.task_lists.specs.TaskListLaws.{ids_fit}
 use Rattle.walks.specs.Walk.{task_at}
 use Rattle.walks.specs.WalkLaws.{task_in}
-use Rattle.record.specs.Record.{awaited_by, wait_with, ticks_left, left_in, wait_in, wait_at, ceiling_on, view_tables}
+use Rattle.record.specs.Record.{awaited_by, wait_with, ticks_left, left_in, wait_in, wait_at, view_tables}
 use Rattle.record.specs.SoundRecord.{mutex_placeb, sem_placeb, task_list_tidyb, tidyb}
 use Rattle.record.specs.Reads.{queue_owner_at, owner_at}
 use Rattle.record.specs.GoodRecord.{Typed, WordsTyped}
 use Rattle.record.specs.Whole.{whole}
 use Rattle.record.specs.TidyLaws.{queues_fit, used_queue, tasks_fit, mutexes_fit, semaphores_fit, mutex_place, sem_place, unused_at_lem, wait_kind, timed_waits, untimed_due}
-use Rattle.record.specs.ViewLaws.{view_queues_lem, view_width, view_depth, view_used, view_words, view_queue_owner, owner_id, unused_owner, view_tasks_lem, view_mutexes_lem, view_semaphores_lem, view_priority, view_outcome, view_wait, view_kind, view_ceiling_on, view_owner, view_count, view_maximum}
-use Rattle.checks.specs.Checks.{past_at, queue_wait_fits, queue_waits_in, priority_at, time_fits, time_fits_at, outcome_fits, outcome_fits_at, ceiling_fits, ceiling_fits_at, mutex_fits, mutex_fits_at, sem_fits, sem_fits_at, lists_in, blocked_by, blocked_at, blocked_in, at_object, is_within, waiter_allowed, waiter_allowed_at, waiters_allowed, owner_allowed, owners_allowed}
+use Rattle.record.specs.ViewLaws.{view_queues_lem, view_width, view_depth, view_used, view_words, view_queue_owner, owner_id, unused_owner, view_tasks_lem, view_mutexes_lem, view_semaphores_lem, view_priority, view_outcome, view_wait, view_kind, view_owner, view_count, view_maximum}
+use Rattle.checks.specs.Checks.{past_at, queue_wait_fits, queue_waits_in, priority_at, time_fits, time_fits_at, outcome_fits, outcome_fits_at, mutex_fits, mutex_fits_at, sem_fits, sem_fits_at, lists_in, blocked_by, blocked_at, blocked_in}
 use Rattle.record.specs.declared.State.{State}  -- keep
 use Rattle.task_lists.specs.declared.TaskList.{TaskList}  -- keep
 
@@ -63,63 +61,23 @@ twice true = refl
 twice false = refl
 
 -- tests joined
-and_yes : (a : Bool) → a ≡ a and true
-unfolding ◌and◌
-and_yes true = refl
-and_yes false = refl
-
-and_assoc : (a c d : Bool) → a and c and d ≡ (a and c) and d
-unfolding ◌and◌
-and_assoc true c d = refl
-and_assoc false c d = refl
-
 three : (a c d : Bool) → (a and c) and d ≡ true and a and c and d
 unfolding ◌and◌
 three true c d = refl
 three false c d = refl
 
-first_last : (a c d : Bool) → (a and c) and d ≡ (d and a) and c
-unfolding ◌and◌
-first_last true true true = refl
-first_last true true false = refl
-first_last true false true = refl
-first_last true false false = refl
-first_last false c true = refl
-first_last false c false = refl
-
 yes_and : (a : Bool) → true and a ≡ true and a
 yes_and a = refl
 
-all_three : (n : ℕ) (p q r : ℕ → Bool) → allb n (λ i. p i and q i and r i) ≡ allb n p and allb n q and allb n r
-all_three n p q r = all_and n p (λ i. q i and r i) ∙ ap (λ (a : Bool). allb n p and a) (all_and n q r)
-
--- a test that is asked apart of those for which another holds
-apart : (m a w r q : Bool) → cond m a r and (not m or w) and q ≡ cond m (a and w) r and q
-unfolding ◌and◌ ◌or◌
-apart true a w r q = and_assoc a w q
-apart false a w r q = refl
-
--- a ceiling by its number
-within_same : (ceiling priority : ℕ) → is_within ceiling priority ≡ withinb (ceiling_on ceiling) priority
-unfolding is_within withinb ◌or◌
-within_same ceiling priority = elim (which (eqb ceiling no_id)) [ inl e ↦ rw e refl | inr e ↦ rw e refl ]
-
-kind_same : (kind ceiling : ℕ) → ceiling_fits kind ceiling and ltb kind kinds ≡ mutexb kind (ceiling_on ceiling)
-unfolding ceiling_fits mutexb ◌and◌
-kind_same kind ceiling = elim (which (eqb ceiling no_id)) [
-  | inl u ↦ rw (eqb-true ceiling no_id u) (elim (which (eqb kind ceiling_kind)) [ inl e ↦ rw (eqb-true kind ceiling_kind e) refl | inr e ↦ rw e (and_yes _) ])
-  | inr u ↦ rw u (elim (which (eqb kind ceiling_kind)) [ inl e ↦ rw (eqb-true kind ceiling_kind e) (sym (and_yes _)) | inr e ↦ rw e refl ])
-]
-
 -- one wait, by the places of its task
 blocked_wait : (t : Tables) (i kind object : ℕ) (left : Option ℕ)
-    → blockedb t (wait_in kind object left) and suitedb t i (wait_in kind object left)
-    ≡ cond (eqb kind on_mutex) (someb (owner_of t object) and may_own t object i) (cond (eqb kind on_semaphore) (ltb object (sem_count t) and eqb (count_of t object) 0) true)
+    → blockedb t (wait_in kind object left) and queuedb t i (wait_in kind object left)
+    ≡ cond (eqb kind on_mutex) (someb (owner_of t object)) (cond (eqb kind on_semaphore) (ltb object (sem_count t) and eqb (count_of t object) 0) true)
     and cond (eqb kind on_send) (ltb object (queue_count t) and eqb (length (messages_of t object)) (depth_of t object) and pastb (width_of t object) (words_of t i))
     (cond (eqb kind on_receive) (ltb object (queue_count t) and eqb (length (messages_of t object)) 0 and is_own (queue_owner_of t object) i) true)
-unfolding wait_with awaited_by blockedb unavailableb suitedb suitsb
+unfolding wait_with awaited_by blockedb unavailableb queuedb suitsb
 blocked_wait t i kind object left = elim (which (eqb kind on_mutex)) [
-  | inl e ↦ (let k = eqb-true kind on_mutex e in rw (e, ne_eqb kind on_send (λ z. omega arith), ne_eqb kind on_receive (λ z. omega arith)) (and_yes _))
+  | inl e ↦ (let k = eqb-true kind on_mutex e in rw (e, ne_eqb kind on_send (λ z. omega arith), ne_eqb kind on_receive (λ z. omega arith)) refl)
   | inr e ↦ rw e (elim (which (eqb kind on_semaphore)) [
     | inl u ↦ (let k = eqb-true kind on_semaphore u in rw (u, ne_eqb kind on_send (λ z. omega arith), ne_eqb kind on_receive (λ z. omega arith)) refl)
     | inr u ↦ rw u (elim (which (eqb kind on_time)) [
@@ -202,56 +160,14 @@ module _ (k : State) (ws b : List ℕ) (T : Typed k) (tidy : tidyb k ≡ true) w
   pub owner_read : (j : ℕ) → j < max_mutexes → get_or k.mutexes.owner j 0 ≡ owner_at k.mutexes j
   owner_read j h = read_any k.mutexes.owner j 0 no_id (omega (arith, T.owner_length))
 
-  ceiling_seen : (j : ℕ) → j < k.mutexes.n → ceiling_on (get_or k.mutexes.ceiling j 0) ≡ ceiling_of (view_tables (whole k ws b)) j
-  ceiling_seen j h = ap ceiling_on (read_any k.mutexes.ceiling j 0 no_id (omega (arith, T.ceiling_length, mutexes_fit k tidy))) ∙ sym (view_ceiling_on k ws b T tidy j h)
-
-  -- kinds and ceilings are as the rules have them, and owners exist
-  abbrev mutex_seen : ℕ → Bool
-  mutex_seen j = mutexb (kind_of (view_tables (whole k ws b)) j) (ceiling_of (view_tables (whole k ws b)) j)
-
-  abbrev owner_seen : ℕ → Bool
-  owner_seen j = existsb (task_count (view_tables (whole k ws b))) (owner_of (view_tables (whole k ws b)) j)
-
-  mutex_unused : (j : ℕ) → k.mutexes.n ≤ j → j < max_mutexes → mutex_fits_at k.mutexes.kind k.mutexes.owner k.mutexes.n k.tasks.n j and ceiling_fits_at k.mutexes j ≡ true
-  unfolding mutex_fits ceiling_fits mutex_placeb
-  mutex_unused j h l =
-      let e = rw (le-ltb j k.mutexes.n h) at (mutex_place k tidy j l) in
-      true_and _ _ (rw (le-ltb j k.mutexes.n h) (true_and _ _ (and_l _ _ e) (and_r _ _ (and_r _ _ e)))) (rw (eqb-true (get_or k.mutexes.kind j 0) 0 (and_l _ _ e)) (and_l _ _ (and_r _ _ e)))
-
-  mutex_used : (j : ℕ) → j < k.mutexes.n → mutex_fits_at k.mutexes.kind k.mutexes.owner k.mutexes.n k.tasks.n j and ceiling_fits_at k.mutexes j ≡ mutex_seen j and owner_seen j
-  unfolding mutex_fits
-  mutex_used j h = rw (
-    lt-ltb j k.mutexes.n h,
-    owner_read j (omega (arith, mutexes_fit k tidy)),
-    view_kind k ws b T tidy j h,
-    ← ceiling_seen j h,
-    view_owner k ws b T tidy j,
-    view_tasks_lem k ws b T tidy,
-    ← kind_same (get_or k.mutexes.kind j 0) (get_or k.mutexes.ceiling j 0),
-    exists_id (owner_at k.mutexes j) k.tasks.n (owner_id k ws b T tidy j),
-  ) (first_last _ _ _)
-
-  pub mutexes_same : allb max_mutexes (mutex_fits_at k.mutexes.kind k.mutexes.owner k.mutexes.n k.tasks.n) and allb max_mutexes (ceiling_fits_at k.mutexes)
-      ≡ allb (mutex_count (view_tables (whole k ws b))) mutex_seen and allb (mutex_count (view_tables (whole k ws b))) owner_seen
-  mutexes_same = sym (all_and max_mutexes _ _) ∙ used_mutexes _ (λ j. mutex_seen j and owner_seen j) mutex_unused mutex_used ∙ all_and (mutex_count (view_tables (whole k ws b))) _ _
-
-  -- "No owner or waiter of one has an own priority smaller than c": where there are such a mutex and such a task
-  allowed_same : (j i : ℕ) → j < k.mutexes.n → i < k.tasks.n → is_within (get_or k.mutexes.ceiling j 0) (key_of k.tasks.priority i) ≡ may_own (view_tables (whole k ws b)) j i
-  allowed_same j i h l = within_same (get_or k.mutexes.ceiling j 0) (key_of k.tasks.priority i) ∙ rw (ceiling_seen j h, view_priority k ws b T tidy i l) refl
-
-  -- owners, where they exist
-  pub owners_same : allb (mutex_count (view_tables (whole k ws b))) owner_seen ≡ true
-      → owners_allowed k.tasks.priority k.mutexes ≡ ceilingsb (view_tables (whole k ws b))
-  unfolding owners_allowed owner_allowed ceilingsb owns_rightlyb ◌or◌
-  owners_same e = used_mutexes _ _
-      (λ j h l. or_l _ _ (eq-eqb _ _ (owner_read j l ∙ unused_owner k ws b T tidy j h)))
-      (λ j h. (let l : j < max_mutexes = omega (arith, mutexes_fit k tidy) in
-      elim (owner_id k ws b T tidy j) [
-        | inl o ↦ (let there : owner_at k.mutexes j < k.tasks.n = omega (arith, exists_true _ _ (all_true _ _ e j (omega (arith, view_mutexes_lem k ws b T tidy))) (owner_at k.mutexes j) (view_owner k ws b T tidy j ∙ task_in _ o), view_tasks_lem k ws b T tidy) in
-            let m : owner_at k.mutexes j % task_places ≡ owner_at k.mutexes j = omega arith in
-            rw (owner_read j l, ne_eqb (owner_at k.mutexes j) no_id (λ q. omega arith), m, view_owner k ws b T tidy j, task_in (owner_at k.mutexes j) o) (allowed_same j (owner_at k.mutexes j) h there))
-        | inr o ↦ rw (owner_read j l, view_owner k ws b T tidy j, o) refl
-      ]))
+  pub mutexes_same : allb max_mutexes (mutex_fits_at k.mutexes.kind k.mutexes.owner k.mutexes.n k.tasks.n)
+      ≡ allb (mutex_count (view_tables (whole k ws b))) (λ j. ltb (kind_of (view_tables (whole k ws b)) j) kinds) and allb (mutex_count (view_tables (whole k ws b))) (λ j. existsb (task_count (view_tables (whole k ws b))) (owner_of (view_tables (whole k ws b)) j))
+  unfolding mutex_fits mutex_placeb
+  mutexes_same = used_mutexes _ (λ j. ltb (kind_of (view_tables (whole k ws b)) j) kinds and existsb (task_count (view_tables (whole k ws b))) (owner_of (view_tables (whole k ws b)) j))
+      (λ j h l. rw (le-ltb j k.mutexes.n h) (rw (le-ltb j k.mutexes.n h) at (mutex_place k tidy j l)))
+      (λ j h. rw (lt-ltb j k.mutexes.n h, owner_read j (omega (arith, mutexes_fit k tidy)), view_kind k ws b T tidy j h, view_owner k ws b T tidy j, view_tasks_lem k ws b T tidy)
+      (ap (λ (b : Bool). ltb (get_or k.mutexes.kind j 0) kinds and b) (exists_id (owner_at k.mutexes j) k.tasks.n (owner_id k ws b T tidy j))))
+      ∙ all_and (mutex_count (view_tables (whole k ws b))) _ _
 
   pub counts_same : allb max_semaphores (sem_fits_at k.semaphores.count k.semaphores.maximum k.semaphores.n) ≡ countsb (view_tables (whole k ws b))
   unfolding countsb sem_fits sem_placeb
@@ -275,15 +191,6 @@ module _ (k : State) (ws b : List ℕ) (T : Typed k) (tidy : tidyb k ≡ true) w
     | no h ↦ (let l : max_mutexes ≤ j = omega arith in
         rw (le-ltb j max_mutexes l, view_owner k ws b T tidy j) (ap (λ (x : ℕ). someb (task_at x)) (sym (unused_owner k ws b T tidy j (omega (arith, mutexes_fit k tidy))))))
   ]
-
-  -- a mutex that is awaited and has an owner is one of those that there are, so that the ceiling that is read is its own
-  held_same : (j i : ℕ) → i < k.tasks.n → (ltb j max_mutexes and not (eqb (get_or k.mutexes.owner (j % max_mutexes) 0) no_id)) and is_within (get_or k.mutexes.ceiling (j % max_mutexes) 0) (key_of k.tasks.priority i)
-      ≡ someb (owner_of (view_tables (whole k ws b)) j) and may_own (view_tables (whole k ws b)) j i
-  unfolding someb
-  held_same j i h = ap (λ (a : Bool). a and is_within (get_or k.mutexes.ceiling (j % max_mutexes) 0) (key_of k.tasks.priority i)) (owned_same j) ∙ and_same _ _ _ (λ u. elim (dec_lt j k.mutexes.n) [
-    | yes l ↦ (let m : j % max_mutexes ≡ j = omega (arith, mutexes_fit k tidy) in rw m (allowed_same j i l h))
-    | no l ↦ absurd (clash u (rw (view_owner k ws b T tidy j, unused_owner k ws b T tidy j (omega arith)) refl))
-  ])
 
   credit_same : (j : ℕ) → ltb j k.semaphores.n and eqb (get_or k.semaphores.count (j % max_semaphores) 0) 0 ≡ ltb j (sem_count (view_tables (whole k ws b))) and eqb (count_of (view_tables (whole k ws b)) j) 0
   credit_same j = rw (view_semaphores_lem k ws b T tidy) (and_same _ _ _ (λ u.
@@ -321,24 +228,18 @@ module _ (k : State) (ws b : List ℕ) (T : Typed k) (tidy : tidyb k ≡ true) w
     receive_same i q h = rw (view_queues_lem k ws b T tidy) (and_same _ _ _ (λ u. let l = ltb-true q k.queues.n u in
         rw (view_used k ws b T tidy q l, own_same q i l) refl))
 
-    -- one task's wait, as the code looks at it
-    abbrev wait_fits_in : ℕ → Bool
-    wait_fits_in i = blocked_at k.tasks.wait k.tasks.object k.mutexes.owner k.semaphores.count k.semaphores.n i
-        and waiter_allowed_at k.tasks.wait (filled task_places (at_object k.tasks.object k.mutexes.ceiling)) k.tasks.priority i
-        and queue_wait_fits k.queues ws i (get_or k.tasks.wait i 0) (get_or k.tasks.object i 0)
-
     unused_blocked : (i : ℕ) → k.tasks.n ≤ i → i < task_places
-        → wait_fits_in i ≡ true
-    unfolding blocked_by waiter_allowed queue_wait_fits ◌and◌ ◌or◌
+        → blocked_at k.tasks.wait k.tasks.object k.mutexes.owner k.semaphores.count k.semaphores.n i and queue_wait_fits k.queues ws i (get_or k.tasks.wait i 0) (get_or k.tasks.object i 0) ≡ true
+    unfolding blocked_by queue_wait_fits ◌and◌
     unused_blocked i h l = rw (unused_at_lem k tidy i h l).no_wait refl
 
     used_blocked : (i : ℕ) → i < k.tasks.n
-        → wait_fits_in i
-        ≡ blockedb (view_tables (whole k ws b)) (wait_of (view_tables (whole k ws b)) i) and suitedb (view_tables (whole k ws b)) i (wait_of (view_tables (whole k ws b)) i)
-    unfolding blocked_by waiter_allowed queue_wait_fits wait_at
-    used_blocked i h = rw (view_wait k ws b T tidy i h, blocked_wait, get_d_filled task_places (at_object k.tasks.object k.mutexes.ceiling) 0 i (omega (arith, tasks_fit k tidy)), apart, held_same (key_of k.tasks.object i) i h, credit_same (key_of k.tasks.object i), send_same i (key_of k.tasks.object i) h, receive_same i (key_of k.tasks.object i) h) refl
+        → blocked_at k.tasks.wait k.tasks.object k.mutexes.owner k.semaphores.count k.semaphores.n i and queue_wait_fits k.queues ws i (get_or k.tasks.wait i 0) (get_or k.tasks.object i 0)
+        ≡ blockedb (view_tables (whole k ws b)) (wait_of (view_tables (whole k ws b)) i) and queuedb (view_tables (whole k ws b)) i (wait_of (view_tables (whole k ws b)) i)
+    unfolding blocked_by queue_wait_fits wait_at
+    used_blocked i h = rw (view_wait k ws b T tidy i h, blocked_wait, owned_same (key_of k.tasks.object i), credit_same (key_of k.tasks.object i), send_same i (key_of k.tasks.object i) h, receive_same i (key_of k.tasks.object i) h) refl
 
-    pub blocked_same : blocked_in k.tasks.wait k.tasks.object k.mutexes k.semaphores and waiters_allowed k.tasks.wait k.tasks.object k.tasks.priority k.mutexes and queue_waits_in k.tasks.wait k.tasks.object k.queues ws
-        ≡ waitersb (view_tables (whole k ws b)) and waits_suitb (view_tables (whole k ws b))
-    unfolding blocked_in waiters_allowed queue_waits_in waitersb waits_suitb
-    blocked_same = sym (all_three task_places _ _ _) ∙ used_tasks _ _ unused_blocked used_blocked ∙ all_and (task_count (view_tables (whole k ws b))) _ _
+    pub blocked_same : blocked_in k.tasks.wait k.tasks.object k.mutexes k.semaphores and queue_waits_in k.tasks.wait k.tasks.object k.queues ws
+        ≡ waitersb (view_tables (whole k ws b)) and queue_waitsb (view_tables (whole k ws b))
+    unfolding blocked_in queue_waits_in waitersb queue_waitsb
+    blocked_same = sym (all_and task_places _ _) ∙ used_tasks _ _ unused_blocked used_blocked ∙ all_and (task_count (view_tables (whole k ws b))) _ _

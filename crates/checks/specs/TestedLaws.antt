@@ -1,15 +1,12 @@
 -- Tests by flags and by tables made beforehand are the tests by counts and columns.
-use Rattle.std.specs.Prelude.{◌≡◌, ◌⊎◌, List, Bool, true, false, cond, not, ltb, eqb, length}
-use Rattle.std.proofs.Math.Path.{refl}
+use Rattle.std.specs.Prelude.{◌≡◌, refl, ◌⊎◌, List, Bool, true, false, cond, not, ℕ, zero, suc, ◌%◌, ◌<◌, ltb, eqb, length, get_or}
 use Rattle.std.proofs.Common.{ap, ◌∙◌, inl, inr, arith, eqb-true, lt-ltb, le-ltb}
 use Rattle.std.proofs.Math.Option.{none}
-use Prim.Native.Nat.{ℕ, zero, suc, ◌%◌, ◌≤◌, ◌<◌, min}
 use Rattle.std.proofs.Math.Decide.{dec_lt}
-use Rattle.std.proofs.Math.ListN.{get_or, get_or-eq_default}
-use Rattle.std.proofs.lemmas.List.{set-get_or}
+use Rattle.std.proofs.Math.ListN.{get_or-eq_default}
 use Rattle.lists.specs.Test.{◌and◌, ◌or◌, allb}
 use Rattle.lists.specs.Table.{filled}
-use Rattle.lists.specs.TestLaws.{clash, which, by_test, true_and, or_r, all_true, true_all, all_same, all_and}
+use Rattle.lists.specs.TestLaws.{clash, which, true_and, all_true, true_all, all_same, all_and}
 use Rattle.lists.specs.TableLaws.{read_any, get_d_filled}
 use Rattle.chains.specs.Chain.{endsb}
 use Rattle.chains.specs.ChainLaws.{ends_none}
@@ -17,10 +14,10 @@ use Rattle.rules.specs.Sizes.{task_places, max_mutexes, max_semaphores, max_queu
 use Rattle.task_lists.specs.TaskList.{no_id, used_places, id_fits, id_fits_at, id_fits_by}
 use Rattle.task_lists.specs.TaskListLaws.{used_flag}
 use Rattle.walks.specs.Walk.{task_at, next_in, lent, lent_by}
-use Rattle.record.specs.Reads.{led_by, leads_nowhere_at, heir_at, own_levels}
+use Rattle.record.specs.Reads.{led_by, leads_nowhere_at, heir_at}
 use Rattle.record.specs.ReadLaws.{led_none}
 use Rattle.record.specs.SoundRecord.{is_object_wait}
-use Rattle.checks.specs.Checks.{unused_at, unused_by, unused_in, priority_at, priority_fits_by, others_unused, wait_fits_at, time_fits_at, outcome_fits_at, tasks_in, no_object_at, blocked_by, blocked_at, blocked_in, blocked_fits, blocked_fits_at, empty_at, at_object, is_within, waiter_allowed, waiters_allowed, owner_allowed, owners_allowed, queue_wait_fits, queue_waits_in, ringless, waits_in, same_at, levels_in, free_at}
+use Rattle.checks.specs.Checks.{unused_at, unused_by, unused_in, priority_at, priority_fits_by, others_unused, wait_fits_at, time_fits_at, outcome_fits_at, tasks_in, no_object_at, blocked_by, blocked_at, blocked_in, blocked_fits, blocked_fits_at, empty_at, at_object, queue_wait_fits, queue_waits_in, ringless, waits_in, same_at, levels_in}
 use Rattle.record.specs.declared.Tasks.{Tasks}  -- keep
 use Rattle.record.specs.declared.Mutexes.{Mutexes}  -- keep
 use Rattle.record.specs.declared.Semaphores.{Semaphores}  -- keep
@@ -143,14 +140,13 @@ one_link next (suc f) o p g = elim (dec_lt o task_places) [
 ]
 
 -- where nobody waits for an object, waits are as they should be, and there is no ring
-pub waits_none : (waits objects priorities : List ℕ) (m : Mutexes) (c : Semaphores) (x : Queues) (words : List ℕ)
-    → allb task_places (no_object_at waits) ≡ true → waits_in waits objects priorities m c x words ≡ true
-unfolding waits_in blocked_in blocked_by waiters_allowed waiter_allowed queue_waits_in queue_wait_fits ringless ◌or◌
-waits_none waits objects priorities m c x words e =
+pub waits_none : (waits objects : List ℕ) (m : Mutexes) (c : Semaphores) (x : Queues) (words : List ℕ)
+    → allb task_places (no_object_at waits) ≡ true → waits_in waits objects m c x words ≡ true
+unfolding waits_in blocked_in blocked_by queue_waits_in queue_wait_fits ringless ◌or◌
+waits_none waits objects m c x words e =
     true_and _ _ (true_all task_places _ (λ i h. elim (kind i h) [ inl u ↦ rw u refl | inr u ↦ rw u refl ]))
     (true_and _ _ (true_all task_places _ (λ i h. elim (kind i h) [ inl u ↦ rw u refl | inr u ↦ rw u refl ]))
-    (true_and _ _ (true_all task_places _ (λ i h. elim (kind i h) [ inl u ↦ rw u refl | inr u ↦ rw u refl ]))
-    (true_and _ _ (true_all max_mutexes _ (λ j h. one_link next task_places (get_or m.owner j 0) (omega arith) alone)) (true_all max_queues _ (λ j h. one_link next task_places (get_or x.owner j 0) (omega arith) alone)))))
+    (true_and _ _ (true_all max_mutexes _ (λ j h. one_link next task_places (get_or m.owner j 0) (omega arith) alone)) (true_all max_queues _ (λ j h. one_link next task_places (get_or x.owner j 0) (omega arith) alone))))
   where
     kind : (i : ℕ) → i < task_places → (get_or waits i 0 ≡ 0) ⊎ (get_or waits i 0 ≡ on_time)
     kind i h = no_object (get_or waits i 0) (all_true task_places (no_object_at waits) e i h)
@@ -163,32 +159,3 @@ waits_none waits objects priorities m c x words e =
 
     alone : (i : ℕ) → i < task_places → get_or next i 0 ≡ no_id
     alone i h = get_d_filled task_places to 0 i h ∙ led_none m.owner x.owner waits objects i (elim (kind i h) [ inl u ↦ rw u refl | inr u ↦ rw u refl ])
-
--- where no mutex has a ceiling, whoever waits or owns may, and levels by themselves are own priorities, which are bytes
-module _ (m : Mutexes) (e : allb max_mutexes (free_at m.ceiling) ≡ true) where
-  none_at : (j : ℕ) → j < max_mutexes → get_or m.ceiling j 0 ≡ no_id
-  none_at j h = eqb-true _ _ (all_true max_mutexes (free_at m.ceiling) e j h)
-
-  within_none : (j priority : ℕ) → j < max_mutexes → is_within (get_or m.ceiling j 0) priority ≡ true
-  unfolding is_within ◌or◌
-  within_none j priority h = rw (none_at j h) refl
-
-  pub waiters_none : (waits objects priorities : List ℕ) → waiters_allowed waits objects priorities m ≡ true
-  unfolding waiters_allowed waiter_allowed
-  waiters_none waits objects priorities = true_all task_places _ (λ i h. or_r _ _ (rw (get_d_filled task_places (at_object objects m.ceiling) 0 i h)
-      (within_none (get_or objects i 0 % max_mutexes) (get_or priorities i 0) (omega arith))))
-
-  pub owners_none : (priorities : List ℕ) → owners_allowed priorities m ≡ true
-  unfolding owners_allowed owner_allowed
-  owners_none priorities = true_all max_mutexes _ (λ j h. or_r _ _ (within_none j _ h))
-
-  pub own_none : (t : Tasks) → ((i : ℕ) → get_or t.priority i 0 ≤ no_id) → own_levels t m ≡ t.priority
-  unfolding own_levels lent_by lent
-  own_none t bytes = go max_mutexes (omega arith)
-    where
-      same : (o : ℕ) → min no_id (get_or t.priority o 0) ≡ get_or t.priority o 0
-      same o = omega (arith, bytes o)
-
-      go : (n : ℕ) → n ≤ max_mutexes → lent_by t.priority m.owner m.ceiling n ≡ t.priority
-      go zero h = refl
-      go (suc n) h = rw (go n (omega arith), none_at n (omega arith), same (get_or m.owner n 0), set-get_or t.priority (get_or m.owner n 0) 0) (by_test (λ l. l ≡ t.priority) (ltb (get_or m.owner n 0) task_places) (λ u. refl) (λ u. refl))

@@ -13,7 +13,7 @@ use Rattle.task_lists.specs.TaskListLaws.{ids_fit}
 use Rattle.record.specs.SoundRecord.{is_object_wait, queue_placeb, queues_tidyb, used_taskb, unused_taskb, task_placeb, tasks_tidyb, idb, mutex_placeb, mutexes_tidyb, sem_placeb, semaphores_tidyb, task_list_tidyb, tidyb}
 use Rattle.record.specs.GoodRecord.{Typed}
 use Rattle.record.specs.TidyLaws.{tasks_fit, mutexes_fit, semaphores_fit, queues_fit, ready_fits, waiting_fits, started_flag, used_task, unused_at_lem}
-use Rattle.checks.specs.Checks.{queue_fits, queue_fits_at, queues_in, sizes_in, unused_at, unused_in, wait_fits, wait_fits_at, time_fits, time_fits_at, tasks_in, mutex_fits, mutex_fits_at, ceiling_fits, ceiling_fits_at, sem_fits, sem_fits_at, objects_in, lists_in}
+use Rattle.checks.specs.Checks.{queue_fits, queue_fits_at, queues_in, sizes_in, unused_at, unused_in, wait_fits, wait_fits_at, time_fits, time_fits_at, tasks_in, mutex_fits, mutex_fits_at, sem_fits, sem_fits_at, objects_in, lists_in}
 use Rattle.record.specs.declared.State.{State}  -- keep
 use Rattle.task_lists.specs.declared.TaskList.{TaskList}  -- keep
 
@@ -35,11 +35,6 @@ due_timed kind timed due clock e = elim (which (eqb timed 1)) [ inl u ↦ or_r _
 -- the id of one of the tasks, or none
 id_in : (x n : ℕ) → n ≤ task_places → eqb x no_id or ltb x n ≡ true → idb x ≡ true
 id_in x n h e = elim (or_true _ _ e) [ inl u ↦ or_r _ _ u | inr u ↦ or_l _ _ (lt-ltb x task_places (omega (arith, ltb-true x n u))) ]
-
--- a place of kind 0 has no ceiling
-no_ceiling : (kind ceiling : ℕ) → eqb kind 0 ≡ true → ceiling_fits kind ceiling ≡ true → eqb ceiling no_id ≡ true
-unfolding ceiling_fits
-no_ceiling kind ceiling e f = rw (eqb-true kind 0 e) at f
 
 -- the tasks' places
 module _ (k : State) (tasks : tasks_in k.tasks k.clock ≡ true) where
@@ -92,21 +87,16 @@ module _ (k : State) (objects : objects_in k.mutexes k.semaphores k.tasks.n ≡ 
   unfolding objects_in
   mutex_fits_lem = all_true max_mutexes (mutex_fits_at k.mutexes.kind k.mutexes.owner k.mutexes.n k.tasks.n) (and_l _ _ objects)
 
-  ceiling_fits_lem : (j : ℕ) → j < max_mutexes → ceiling_fits_at k.mutexes j ≡ true
-  unfolding objects_in
-  ceiling_fits_lem = all_true max_mutexes (ceiling_fits_at k.mutexes) (and_l _ _ (and_r _ _ objects))
-
   mutexes_tidy : k.tasks.n ≤ task_places → k.mutexes.n ≤ max_mutexes → mutexes_tidyb k.mutexes ≡ true
   unfolding mutexes_tidyb mutex_placeb mutex_fits
   mutexes_tidy few fit = true_and _ _ (le-leb k.mutexes.n max_mutexes fit) (true_all max_mutexes _ (λ j l. elim (which (ltb j k.mutexes.n)) [
     | inl u ↦ rw u (id_in (get_or k.mutexes.owner j 0) k.tasks.n few (and_r _ _ (rw u at (mutex_fits_lem j l))))
-    | inr u ↦ (let e = rw u at (mutex_fits_lem j l) in
-        rw u (true_and _ _ (and_l _ _ e) (true_and _ _ (no_ceiling (get_or k.mutexes.kind j 0) (get_or k.mutexes.ceiling j 0) (and_l _ _ e) (ceiling_fits_lem j l)) (and_r _ _ e))))
+    | inr u ↦ rw u (rw u at (mutex_fits_lem j l))
   ]))
 
   sem_fits_lem : (j : ℕ) → j < max_semaphores → sem_fits_at k.semaphores.count k.semaphores.maximum k.semaphores.n j ≡ true
   unfolding objects_in
-  sem_fits_lem = all_true max_semaphores (sem_fits_at k.semaphores.count k.semaphores.maximum k.semaphores.n) (and_r _ _ (and_r _ _ objects))
+  sem_fits_lem = all_true max_semaphores (sem_fits_at k.semaphores.count k.semaphores.maximum k.semaphores.n) (and_r _ _ objects)
 
   semaphores_tidy : k.semaphores.n ≤ max_semaphores → semaphores_tidyb k.semaphores ≡ true
   unfolding semaphores_tidyb sem_placeb sem_fits

@@ -1,8 +1,8 @@
 -- What is planned for a request on a record that was tested before.
-use Rattle.std.specs.Prelude.{◌≡◌, List, Bool, true, cond, not, ℕ, ltb, leb, eqb, length}
+use Rattle.std.specs.Prelude.{◌≡◌, List, Bool, true, cond, ℕ, ltb, leb, length}
 use Rattle.std.proofs.Math.Option.{none}
 use Rattle.lists.specs.Test.{◌and◌}
-use Rattle.rules.specs.Sizes.{held_words, ceiling_kind}
+use Rattle.rules.specs.Sizes.{held_words}
 use Rattle.record.specs.Whole.{Whole, whole}
 use Rattle.record.specs.SoundRecord.{sound_of}
 use Rattle.record.specs.GoodRecord.{Typed}
@@ -15,14 +15,12 @@ use Rattle.record.specs.declared.Plan.{Plan}  -- keep
 use Rattle.moves.specs.declared.Move.TheVariants.{Nothing}  -- keep
 use Rattle.record.specs.declared.Out.{Out}  -- keep
 use Rattle.record.specs.declared.Request.{Request}  -- keep
-use Rattle.record.specs.declared.Request.TheVariants.{Task, Mutex, CeilingMutex, Sem, Start, Lock, Unlock, Pend, Post, Flush, Sleep, Yield, Hold, Free, Tick, Level, Outcome, Queue, OwnedQueue, Send, Receive, Word}  -- keep
+use Rattle.record.specs.declared.Request.TheVariants.{Task, Mutex, Sem, Start, Lock, Unlock, Pend, Post, Flush, Sleep, Yield, Hold, Free, Tick, Level, Outcome, Queue, OwnedQueue, Send, Receive, Word}  -- keep
 
--- document 02, K1: "14 for a send with no word or over 8"; K4: "14 for kind 2 without c or another kind with it": `is_formed` by the number of the
--- message's words
+-- document 02, K1: "14 for a send with no word or over 8": `is_formed` by the number of the message's words
 unfoldable pub formed_by : Request → ℕ → Bool
 formed_by (Task p) n = true
-formed_by (Mutex k) n = not (eqb k ceiling_kind)
-formed_by (CeilingMutex k c) n = eqb k ceiling_kind
+formed_by (Mutex k) n = true
 formed_by (Sem count max) n = true
 formed_by Start n = true
 formed_by (Lock j t) n = true

@@ -15,13 +15,12 @@ use Rattle.record.specs.declared.State.{State}  -- keep
 use Rattle.record.specs.declared.Answer.{Answer}  -- keep
 use Rattle.record.specs.declared.Plan.{Plan}  -- keep
 use Rattle.record.specs.declared.Request.{Request}  -- keep
-use Rattle.record.specs.declared.Request.TheVariants.{Task, Mutex, CeilingMutex, Sem, Start, Lock, Unlock, Pend, Post, Flush, Sleep, Yield, Hold, Free, Tick, Level, Outcome, Queue, OwnedQueue, Send, Receive, Word}  -- keep
+use Rattle.record.specs.declared.Request.TheVariants.{Task, Mutex, Sem, Start, Lock, Unlock, Pend, Post, Flush, Sleep, Yield, Hold, Free, Tick, Level, Outcome, Queue, OwnedQueue, Send, Receive, Word}  -- keep
 
 pub formed_same : (x : Request) (m : List ℕ) → formed_by x (length m) ≡ is_formed (step_for x m)
 unfolding formed_by is_formed step_for
 formed_same (Task p) m = refl
 formed_same (Mutex k) m = refl
-formed_same (CeilingMutex k c) m = refl
 formed_same (Sem count max) m = refl
 formed_same Start m = refl
 formed_same (Lock j t) m = refl

@@ -1,36 +1,25 @@
 // The kernel: the step that takes any record and any request, and the refusals that no step gives.
 pub mod refused;
 
-ghost use Rattle.std.specs.Prelude.{◌≡◌, ltb, leb};
-ghost use Rattle.lists.specs.Test.{◌and◌};
-ghost use Rattle.rules.specs.Sizes.{held_words};
+ghost use Rattle.std.specs.Prelude.{◌≡◌};
 ghost use Rattle.record.specs.Whole.{whole};
 ghost use Rattle.record.specs.StepRecord.{step_of, out_of};
 ghost use Rattle.kernel.specs.Planning.{formed_by, unmoved, planned};
 
 use moves::Move;
-use record::{Answer, CEILING, EIGHT, Out, Plan, Request, State};
+use record::{Answer, EIGHT, Out, Plan, Request, State};
 
-// Has a message one to eight words?
-fn has_words(count: usize) -> bool
-    ensures { result ≡ ltb 0 count and leb count held_words }
+// Has the message beside a request one to eight words? Only a send has one.
+pub fn is_formed(x: Request, count: usize) -> bool
+    ensures { result ≡ formed_by x count }
 {
+    let Request::Send { queue: _, time: _ } = x else {
+        return true;
+    };
     if count == 0 {
         return false;
     }
     count <= EIGHT
-}
-
-// Is a request one that a line can be? A send has one word to eight beside it, and a mutex has a ceiling where it is of the kind with one.
-pub fn is_formed(x: Request, count: usize) -> bool
-    ensures { result ≡ formed_by x count }
-{
-    match x {
-        Request::Send { queue: _, time: _ } => has_words(count),
-        Request::Mutex { kind } => kind != CEILING as u32,
-        Request::CeilingMutex { kind, ceiling: _ } => kind == CEILING as u32,
-        _ => true,
-    }
 }
 
 // A refusal: the record stays, and nothing is moved.
@@ -60,7 +49,7 @@ fn plan(s: State, sound: bool, x: Request, count: usize, space: usize, words: &[
 }
 
 // The step: for any record with its words and block, any request and any message, what the rules answer; 15 with no task to run where the record isn't
-// sound, and before that 14 for a send with no word or over eight, or a mutex whose kind and ceiling don't belong together.
+// sound, and before that 14 for a send with no word or over eight.
 pub fn step(s: State, x: Request, message: &[u32], words: &mut [u32], block: &mut [u32]) -> Out
     ensures answer { result ≡ out_of (step_of (whole s words.old block.old) x message.now) }
     ensures held { words.new ≡ (step_of (whole s words.old block.old) x message.now).whole.words }

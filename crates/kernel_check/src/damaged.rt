@@ -18,7 +18,7 @@ pub fn shown(label: &[u8], k: Kept, x: Request) {
 }
 
 // A tick on a record without queues.
-pub fn tried(label: &[u8], s: State) {
+fn tried(label: &[u8], s: State) {
     shown(label, kept::with_block(s, 0), Request::Tick);
 }
 
@@ -162,8 +162,8 @@ fn mutexes() {
     m.n = 9;
     try_mutexes(b"mutexes over 8", m);
     m = good;
-    m.kind[0] = 3;
-    try_mutexes(b"kind 3", m);
+    m.kind[0] = 2;
+    try_mutexes(b"kind 2", m);
     m = good;
     m.owner[1] = 3;
     try_mutexes(b"an owner that there is not", m);
@@ -318,7 +318,6 @@ fn wild() {
     };
     let m = Mutexes {
         kind: [255u8; MUTEXES],
-        ceiling: [255u8; MUTEXES],
         owner: [255u8; MUTEXES],
         n: 255,
     };

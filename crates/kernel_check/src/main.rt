@@ -1,5 +1,4 @@
-// Steps through the edges that document 01 wants run, through those of document 02's queues and ceilings, and through damaged records, and prints what comes back.
-mod ceilings;
+// Steps through the edges that document 01 wants run, through those of document 02's queues, and through damaged records, and prints what comes back.
 mod damaged;
 mod damaged_queues;
 mod edges;
@@ -14,7 +13,6 @@ fn main() {
     edges::all();
     queue_refusals::all();
     messages::all();
-    ceilings::all();
     damaged::all();
     damaged_queues::all();
 }

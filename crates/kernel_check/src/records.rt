@@ -67,14 +67,9 @@ fn same_tasks(a: Tasks, b: Tasks) -> bool {
 fn same_mutexes(a: Mutexes, b: Mutexes) -> bool {
     let kind_a = a.kind;
     let kind_b = b.kind;
-    let ceiling_a = a.ceiling;
-    let ceiling_b = b.ceiling;
     let owner_a = a.owner;
     let owner_b = b.owner;
-    same_few(kind_a, kind_b)
-        && same_few(ceiling_a, ceiling_b)
-        && same_few(owner_a, owner_b)
-        && a.n == b.n
+    same_few(kind_a, kind_b) && same_few(owner_a, owner_b) && a.n == b.n
 }
 
 fn same_semaphores(a: Semaphores, b: Semaphores) -> bool {

@@ -7,9 +7,8 @@ ghost use Rattle.lists.specs.Order.{before};
 ghost use Rattle.rules.specs.Sizes.{task_places, max_mutexes, max_queues, on_mutex, on_send};
 ghost use Rattle.task_lists.specs.TaskList.{no_id};
 ghost use Rattle.walks.specs.Walk.{chain_from};
-ghost use Rattle.record.specs.Reads.{led_by, leads_at, leads_nowhere_at, heir_by, heir_at, own_levels, new_levels};
+ghost use Rattle.record.specs.Reads.{led_by, leads_at, leads_nowhere_at, heir_by, heir_at, new_levels};
 ghost use Rattle.record.specs.declared.Queues.{Queues};
-ghost use Rattle.record.specs.declared.Tasks.{Tasks};
 
 use record::{
     INHERITING, MAX_MUTEXES, MAX_QUEUES, MUTEXES, Mutexes, NONE, ON_MUTEX, ON_SEND, QUEUES, TASKS,
@@ -111,15 +110,6 @@ pub fn heirs_of(m: Mutexes) -> [u8; MUTEXES]
     a
 }
 
-// Every task's level by itself: its own priority, or the most urgent ceiling of a mutex that it owns.
-pub fn own_levels(priority: [u8; TASKS], m: Mutexes) -> [u8; TASKS]
-    ensures { (t : Tasks) → t.priority ≡ priority → result ≡ own_levels t m }
-{
-    let owner = m.owner;
-    let ceiling = m.ceiling;
-    walks::own_levels(priority, &owner, &ceiling)
-}
-
 // Every task's level, as the rules define it; of the queues only the owners count.
 pub fn new_levels(t: Tasks, m: Mutexes, queues: [u8; QUEUES]) -> [u8; TASKS]
     ensures { (x : Queues) → x.owner ≡ queues → result ≡ new_levels t m x }
@@ -128,8 +118,7 @@ pub fn new_levels(t: Tasks, m: Mutexes, queues: [u8; QUEUES]) -> [u8; TASKS]
     let objects = t.object;
     let heirs = heirs_of(m);
     let lends = leads_of(&waits, &objects, heirs, queues);
-    let priority = t.priority;
-    let own = own_levels(priority, m);
+    let own = t.priority;
     walks::levels_of(own, &lends, t.n)
 }
 

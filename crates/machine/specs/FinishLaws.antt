@@ -53,17 +53,6 @@ module _ (o : List ℕ) (s : Model) (I : Inv s) where
         (λ z i r m q. omega (arith, S.urgent (low z) i r (omega (arith, ap (occ i) e)) q, same r, same i)),
       )
 
-  -- the running task alone has another level, a more urgent one: nobody moves
-  pub lifted_pack : (t : Tables) → task_count t ≡ task_count s.tables → ((i : ℕ) → 1 ≤ occ i s.ready → level_in t i ≡ level_of s i) → ((r : ℕ) → s.running ≡ some r → level_in t r ≤ level_of s r)
-      → pack o (with_tables s t) ≡ pack o (dispatch (settle (level_of s) (with_tables s t) []))
-  lifted_pack t n same more = ap (pack o) (sym (ap (λ l. dispatch (placed (with_tables s t) s.running l)) order ∙ dispatch_still (with_tables s t) (λ e. ((I.when_started e).runs, urgent (I.when_started e)))))
-    where
-      order : settled_ready (task_count t) (level_of s) (level_in t) s.ready [] ≡ s.ready
-      order = settled_same (task_count t) (level_of s) (level_in t) s.ready same I.ascending
-
-      urgent : Started s → Urgent (with_tables s t)
-      urgent S z i r m q = omega (arith, S.urgent z i r m q, same i m, more r q)
-
   -- after settling, who may run is chosen
   module _ (e : Model) (woken : List ℕ) (F : Facts e.tables) (P : Places e woken) where
     chosen_pack : dispatched (pack o (settle (level_of s) e woken)) ≡ pack o (dispatch (settle (level_of s) e woken))

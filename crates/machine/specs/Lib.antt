@@ -8,7 +8,6 @@ pub mod FlagLaws
 pub mod WaitLaws
 pub mod EffectLaws
 pub mod ObjectLaws
-pub mod TakenLevelLaws
 pub mod QueueObjectLaws
 pub mod PartLaws
 pub mod TimedLaws

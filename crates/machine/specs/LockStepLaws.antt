@@ -1,71 +1,60 @@
 -- Lock and unlock on a packed sound state: each is the packed rule.
-use Rattle.std.specs.Prelude.{◌≡◌, List, [], ◌∷◌, true, false, ℕ, ◌≤◌, ◌<◌, min, ltb, length}
+use Rattle.std.specs.Prelude.{◌≡◌, List, [], ◌∷◌, true, ℕ, ◌<◌, ltb, length}
 use Rattle.std.proofs.Math.Path.{refl, ap, sym}
-use Rattle.std.proofs.Common.{◌∙◌, inl, inr, arith}
-use Rattle.std.proofs.Math.Bool.{cond, not}
+use Rattle.std.proofs.Common.{◌∙◌, arith}
+use Rattle.std.proofs.Math.Bool.{false, cond}
+use Rattle.std.proofs.Math.Logic.{inl, inr}
 use Rattle.std.proofs.Math.Option.{Option, none, some}
-use Rattle.std.proofs.Math.Decide.{dec_lt}
 use Rattle.std.proofs.Math.Dec.{eqb}
-use borrow.Author.Tests.{leb-false, not-true, not-false, eq-eqb, ne_eqb, lt-ltb, le-ltb, le-leb, lt-leb}
+use borrow.Author.Tests.{leb-false, not-true, not-false, eq-eqb, ne_eqb}
 use Rattle.lists.specs.Test.{◌and◌, someb, holds}
 use Rattle.lists.specs.Count.{occ, member, opt}
 use Rattle.lists.specs.Order.{before}
-use Rattle.lists.specs.TestLaws.{which, clash, by_test, none_some, some_same}
-use Rattle.lists.specs.CountLaws.{occ_append, occ_opt, below_le}
-use Rattle.rules.specs.Sizes.{levels, granted, on_mutex, on_time}
-use Rattle.rules.specs.Levels.{level_in, chain_of, links_of, closes_ring, awaits, best_waiter}
+use Rattle.lists.specs.TestLaws.{which, clash, by_test, none_some}
+use Rattle.lists.specs.CountLaws.{occ_append}
+use Rattle.rules.specs.Sizes.{granted, on_mutex, on_time}
+use Rattle.rules.specs.Levels.{chain_of, links_of, closes_ring, awaits, best_waiter}
 use Rattle.rules.specs.Step.{lock, unlock}
 use Rattle.rules.specs.Effect.{give, begin_wait, end_waits, ended, caller_waits, lock_by, pass_on, effect}
 use Rattle.rules.specs.Settle.{settle, dispatch}
-use Rattle.rules.specs.Refusal.{◌when◌, is_waiting_time, held, of_caller, links_for, caller_owns, above_ceiling, refusals}
-use Rattle.rules.specs.Invariant.{Within, Facts, Inv}
-use Rattle.rules.specs.CeilingLaws.{ceiling_below}
+use Rattle.rules.specs.Refusal.{◌when◌, is_waiting_time, held, of_caller, links_for, caller_owns, refusals}
+use Rattle.rules.specs.Invariant.{Facts, Inv}
 use Rattle.rules.specs.FactsLaws.{facts_give, facts_free, facts_begin, wait_ended, facts_end}
-use Rattle.rules.specs.WaiterLaws.{awaited_blocked, awaited_suits, best_waits, nobody_best, places_end}
-use Rattle.rules.specs.StepLaws.{left_wait, caller_in, caller_idle, of_caller_lem, within_caller}
-use Rattle.rules.specs.CreationLaws.{ready_in}
-use Rattle.task_lists.specs.TaskList.{no_id, key_of, id_of}
-use Rattle.walks.specs.Walk.{lent}
+use Rattle.rules.specs.WaiterLaws.{awaited_blocked, nobody_best, places_end}
+use Rattle.rules.specs.StepLaws.{left_wait, caller_in, caller_idle, of_caller_lem}
+use Rattle.task_lists.specs.TaskList.{no_id, id_of}
 use Rattle.machine.specs.Planned.{plan_for}
 use Rattle.moves.specs.declared.Move.TheVariants.{Nothing}  -- keep
 use Rattle.record.specs.Record.{kind_code, pack_tasks, pack_mutexes, pack_semaphores, pack}
-use Rattle.record.specs.Reads.{owner_at, ceiling_at}
-use Rattle.machine.specs.Machine.{single, settled, dispatched, woke, entered, blocked_on, owner_set, answer_in, is_above, taking, freeing, lock_waits, lock_step, unlock_step}
+use Rattle.record.specs.Reads.{owner_at}
+use Rattle.machine.specs.Machine.{single, settled, dispatched, woke, entered, blocked_on, owner_set, answer_in, lock_waits, lock_step, unlock_step}
 use Rattle.record.specs.PackLaws.{level_column, pack_with}
-use Rattle.record.specs.ReadLaws.{owner_read, ceiling_read, priority_read}
-use Rattle.record.specs.OwnLevelLaws.{holds_code}
+use Rattle.record.specs.ReadLaws.{owner_read}
 use Rattle.record.specs.ColumnLaws.{chosen, skipped}
 use Rattle.machine.specs.FlagLaws.{single_flags}
 use Rattle.machine.specs.WaitLaws.{best_pack, chain_pack}
 use Rattle.machine.specs.EffectLaws.{woke_pack, blocked_pack}
-use Rattle.machine.specs.ObjectLaws.{owner_set_lem, level_give}
-use Rattle.machine.specs.TakenLevelLaws.{taken_level, taken_column}
+use Rattle.machine.specs.ObjectLaws.{owner_set_lem, level_same, lends_give}
 use Rattle.machine.specs.RowLaws.{still, ruled, by_rows, on_row, on_accept, called_some, id_some, running_below, on_caller}
 use Rattle.machine.specs.StageLaws.{settle_pack}
-use Rattle.machine.specs.FinishLaws.{quiet_pack, lifted_pack, one_finish, settled_finish}
+use Rattle.machine.specs.FinishLaws.{quiet_pack, one_finish, settled_finish}
 use Rattle.machine.specs.WaitStepLaws.{may_wait_lem, time_test, best_named, best_ended, best_in, best_below}
 use Rattle.record.specs.declared.Plan.{Plan}  -- keep
-use Rattle.record.specs.Setters.{put_tasks, put_mutexes, put_level}  -- keep
-use Rattle.record.specs.declared.State.{State}  -- keep
+use Rattle.record.specs.Setters.{put_mutexes}  -- keep
 use Rattle.machine.specs.Machine.{passed_to}  -- keep
 use Rattle.rules.specs.State.{State as Model, level_of, placed, with_tables}  -- keep
-use Rattle.rules.specs.Tables.{Awaited, mutex_of, awaited_kind, awaited_object, Tables, task_count, mutex_count, priority_of, wait_of, ceiling_of, owner_of, wait_for, withinb, may_own}  -- keep
+use Rattle.rules.specs.Tables.{Awaited, mutex_of, awaited_kind, awaited_object, Tables, mutex_count, wait_of, owner_of, wait_for}  -- keep
 use Rattle.rules.specs.Answer.{step_sound}  -- keep
+
+-- an owner's id is the caller's
+pub holds_code : (o : Option ℕ) (r : ℕ) → r < no_id → eqb (id_of o) r ≡ holds o r
+unfolding id_of holds
+holds_code none r h = ne_eqb no_id r (λ e. omega arith)
+holds_code (some k) r h = refl
 
 pub links_some : (s : Model) (a : Awaited) (o : Option ℕ) (r : ℕ) → o ≡ some r → links_for s a o ≡ links_of s.tables r a
 unfolding links_for
 links_some s a o r e = rw e refl
-
--- a ceiling's number tells whether there is one, and whether a priority is above it
-none_code : (q : Option ℕ) → ((c : ℕ) → q ≡ some c → c < levels) → eqb (id_of q) no_id ≡ not (someb q)
-unfolding id_of someb
-none_code none h = refl
-none_code (some c) h = ne_eqb c no_id (λ e. omega (arith, h c refl))
-
-above_code : (q : Option ℕ) (p : ℕ) → ((c : ℕ) → q ≡ some c → c < levels) → is_above (id_of q) p ≡ not (withinb q p)
-unfolding is_above id_of withinb
-above_code none p h = refl
-above_code (some c) p h = rw (ne_eqb c no_id (λ e. omega (arith, h c refl))) (elim (dec_lt p c) [ yes l ↦ rw (lt-ltb p c l, lt-leb c p l) refl | no l ↦ rw (le-ltb p c (omega arith), le-leb c p (omega arith)) refl ])
 
 module _ (os : List ℕ) (s : Model) (I : Inv s) where
   -- the owner's tests
@@ -78,82 +67,12 @@ module _ (os : List ℕ) (s : Model) (I : Inv s) where
   owns_test m r run = ap (λ x. eqb x (pack os s).running) (owner_at_lem m) ∙ ap (eqb (id_of (owner_of s.tables m))) (id_some s.running r run)
       ∙ holds_code (owner_of s.tables m) r (omega (arith, running_below os s I r run)) ∙ sym (of_caller_lem s.running (holds (owner_of s.tables m)) r run)
 
-  -- the ceiling's number
-  ceiling_at_lem : (m : ℕ) → ceiling_at (pack os s).mutexes m ≡ id_of (ceiling_of s.tables m)
-  unfolding pack pack_mutexes
-  ceiling_at_lem m = ceiling_read s.tables m
-
-  -- whether there is one
-  no_ceiling : (m : ℕ) → eqb (ceiling_at (pack os s).mutexes m) no_id ≡ not (someb (ceiling_of s.tables m))
-  no_ceiling m = ap (λ x. eqb x no_id) (ceiling_at_lem m) ∙ none_code (ceiling_of s.tables m) (ceiling_below s.tables I.facts m)
-
-  -- and whether the caller's own priority is above it
-  above_test : (m r : ℕ) → s.running ≡ some r → is_above (ceiling_at (pack os s).mutexes m) (key_of (pack os s).tasks.priority (pack os s).running) ≡ above_ceiling s m
-  unfolding pack
-  above_test m r run = ap (λ x. is_above x (key_of (pack os s).tasks.priority (pack os s).running)) (ceiling_at_lem m)
-      ∙ ap (λ x. is_above (id_of (ceiling_of s.tables m)) (key_of (pack os s).tasks.priority x)) (id_some s.running r run)
-      ∙ ap (is_above (id_of (ceiling_of s.tables m))) (priority_read s.tables s.clock r)
-      ∙ above_code (ceiling_of s.tables m) (priority_of s.tables r) (ceiling_below s.tables I.facts m)
-      ∙ sym (of_caller_lem s.running (λ q. not (may_own s.tables m q)) r run)
-
-  -- a mutex without a ceiling, for which nobody waits, gets another owner
-  given_finish : (m : ℕ) (o : Option ℕ) → m < mutex_count s.tables → Facts (give s.tables m o) → ((i : ℕ) → awaits s.tables (mutex_of m) i ≡ false) → ceiling_of s.tables m ≡ none
+  -- a mutex for which nobody waits gets another owner
+  given_finish : (m : ℕ) (o : Option ℕ) → m < mutex_count s.tables → Facts (give s.tables m o) → ((i : ℕ) → awaits s.tables (mutex_of m) i ≡ false)
       → put_mutexes (pack os s) (owner_set (pack os s).mutexes m (id_of o)) ≡ pack os (dispatch (settle (level_of s) (with_tables s (give s.tables m o)) []))
   unfolding pack pack_tasks pack_mutexes pack_semaphores pack_with level_column
-  given_finish m o h F nobody e = ap (put_mutexes (pack os s)) (owner_set_lem s.tables I.facts m o h)
-      ∙ quiet_pack os s I (give s.tables m o) s.clock s.hold F refl refl (level_give s.tables m o nobody e) (λ z. z)
-
-  -- a mutex for which nobody waits becomes free
-  freed_finish : (m : ℕ) → m < mutex_count s.tables → ((i : ℕ) → awaits s.tables (mutex_of m) i ≡ false) → (q : Option ℕ) → ceiling_of s.tables m ≡ q
-      → freeing (pack os s) m ≡ pack os (dispatch (settle (level_of s) (with_tables s (give s.tables m none)) []))
-  unfolding freeing pack pack_tasks pack_mutexes pack_semaphores pack_with level_column id_of someb
-  freed_finish m h nobody none e = chosen _ _ _ (no_ceiling m ∙ ap (λ q. not (someb q)) e) ∙ given_finish m none h (facts_free s.tables m nobody I.facts) nobody e
-  freed_finish m h nobody (some c) e = skipped _ _ _ (no_ceiling m ∙ ap (λ q. not (someb q)) e)
-      ∙ ap (λ x. dispatched (settled (put_mutexes (pack os s) x))) (owner_set_lem s.tables I.facts m none h)
-      ∙ settled_finish os s I (with_tables s (give s.tables m none)) (facts_free s.tables m nobody I.facts) refl I.places I.ascending
-
-  -- a free mutex becomes the caller's
-  module _ (m r : ℕ) (run : s.running ≡ some r) (h : m < mutex_count s.tables) (free : owner_of s.tables m ≡ none) (under : Within (ceiling_of s.tables m) (priority_of s.tables r)) where
-    nobody : (i : ℕ) → awaits s.tables (mutex_of m) i ≡ false
-    nobody i = elim (which (awaits s.tables (mutex_of m) i)) [
-      | inl q ↦ none_some free (awaited_blocked s.tables (mutex_of m) (wait_of s.tables i) (I.facts.blocked i) q).1
-      | inr q ↦ q
-    ]
-
-    owned_facts : Facts (give s.tables m (some r))
-    owned_facts = facts_give s.tables m r h (caller_in s I r run) (caller_idle s I r run) under I.facts
-
-    -- the caller alone is lifted
-    level_then : (c : ℕ) → ceiling_of s.tables m ≡ some c → (i : ℕ) → i < task_count s.tables → level_in (give s.tables m (some r)) i ≡ cond (eqb i r) (min c (level_of s i)) (level_of s i)
-    level_then c e = taken_level s.tables I.facts m r c h (caller_in s I r run) free e (caller_idle s I r run) nobody owned_facts
-
-    abbrev taking_by : ℕ → State
-    taking_by x =
-        cond (eqb (ceiling_at (pack os s).mutexes m) no_id) (put_mutexes (pack os s) (owner_set (pack os s).mutexes m x))
-        (put_tasks (put_mutexes (pack os s) (owner_set (pack os s).mutexes m x)) (put_level (pack os s).tasks (lent (pack os s).tasks.level x (ceiling_at (pack os s).mutexes m))))
-
-    lifted_finish : (c : ℕ) → ceiling_of s.tables m ≡ some c
-        → put_tasks (put_mutexes (pack os s) (owner_set (pack os s).mutexes m r)) (put_level (pack os s).tasks (lent (pack os s).tasks.level r c))
-        ≡ pack os (dispatch (settle (level_of s) (with_tables s (give s.tables m (some r))) []))
-    unfolding pack pack_tasks pack_mutexes pack_semaphores level_column id_of occ
-    lifted_finish c e =
-        ap (λ x. put_tasks (put_mutexes (pack os s) x) (put_level (pack os s).tasks (lent (pack os s).tasks.level r c))) (owner_set_lem s.tables I.facts m (some r) h)
-        ∙ ap (λ l. put_tasks (put_mutexes (pack os s) (pack_mutexes (give s.tables m (some r)))) (put_level (pack os s).tasks l))
-        (taken_column s.tables I.facts m r c h (caller_in s I r run) free e (caller_idle s I r run) nobody owned_facts)
-        ∙ lifted_pack os s I (give s.tables m (some r)) refl
-        (λ i q. level_then c e i (ready_in s I i q) ∙ rw (ne_eqb i r (λ p. apart i q p)) refl)
-        (λ i q. omega (arith, level_then c e i (caller_in s I i q), ap (λ x. cond x (min c (level_of s i)) (level_of s i)) (eq-eqb i r (some_same (sym q ∙ run)))))
-      where
-        -- who is ready isn't the running task
-        apart : (i : ℕ) → 1 ≤ occ i s.ready → i ≡ r → ⊥
-        apart i q p = absurd (omega (arith, I.places i, below_le i (task_count s.tables), occ_opt s.running i (run ∙ ap some (sym p))))
-
-    taken_finish : (q : Option ℕ) → ceiling_of s.tables m ≡ q → taking (pack os s) m ≡ pack os (dispatch (settle (level_of s) (with_tables s (give s.tables m (some r))) []))
-    unfolding taking someb id_of pack
-    taken_finish none e = ap taking_by (id_some s.running r run) ∙ chosen _ _ _ (no_ceiling m ∙ ap (λ q. not (someb q)) e) ∙ given_finish m (some r) h owned_facts nobody e
-    taken_finish (some c) e = ap taking_by (id_some s.running r run) ∙ skipped _ _ _ (no_ceiling m ∙ ap (λ q. not (someb q)) e)
-        ∙ ap (λ x. put_tasks (put_mutexes (pack os s) (owner_set (pack os s).mutexes m r)) (put_level (pack os s).tasks (lent (pack os s).tasks.level r x))) (ceiling_at_lem m ∙ ap id_of e)
-        ∙ lifted_finish c e
+  given_finish m o h F nobody = ap (put_mutexes (pack os s)) (owner_set_lem s.tables I.facts m o h)
+      ∙ quiet_pack os s I (give s.tables m o) s.clock s.hold F refl refl (level_same s.tables (give s.tables m o) (lends_give s.tables m o nobody) refl) (λ z. z)
 
   -- the best waiter gets the mutex
   module _ (m w : ℕ) (h : m < mutex_count s.tables) (best : best_waiter s.tables (mutex_of m) ≡ some w) where
@@ -162,7 +81,6 @@ module _ (os : List ℕ) (s : Model) (I : Inv s) where
 
     after_facts : Facts (give granted_to m (some w))
     after_facts = facts_give granted_to m w h (best_in os s I (mutex_of m) w best) (wait_ended s.tables (eqb w) (λ i. granted) w ∙ rw (eq-eqb w w refl) refl)
-        (awaited_suits s.tables w (mutex_of m) (wait_of s.tables w) (I.facts.suited w) (best_waits s.tables I.facts (mutex_of m) w best))
         (facts_end s.tables (eqb w) (λ i. granted) (λ i q. inl refl) I.facts)
 
     passed_woke : put_mutexes (woke (pack os s) (single w) granted granted) (owner_set (pack os s).mutexes m w) ≡ pack_with os (level_column s.tables) (with_tables s (give granted_to m (some w)))
@@ -182,8 +100,10 @@ module _ (os : List ℕ) (s : Model) (I : Inv s) where
 
   pass_on_lem : (m : ℕ) → m < mutex_count s.tables → (o : Option ℕ) → best_waiter s.tables (mutex_of m) ≡ o → answer_in (passed_to (pack os s) m (id_of o)) 0 0 ≡ ruled (still os) s (unlock m) []
   unfolding passed_to pack effect pass_on id_of
-  pass_on_lem m h none e = on_accept (still os) s (unlock m) (pass_on s m none) _ (ap (pass_on s m) e) refl
-      (freed_finish m h (nobody_best s.tables I.facts (mutex_of m) e) (ceiling_of s.tables m) refl)
+  pass_on_lem m h none e = on_accept (still os) s (unlock m) (pass_on s m none) _ (ap (pass_on s m) e) refl (given_finish m none h (facts_free s.tables m nobody I.facts) nobody)
+    where
+      nobody : (i : ℕ) → awaits s.tables (mutex_of m) i ≡ false
+      nobody = nobody_best s.tables I.facts (mutex_of m) e
   pass_on_lem m h (some w) e = ap (λ z. answer_in z 0 0) (skipped _ _ _ (ne_eqb w no_id (λ q. omega (arith, best_below os s I (mutex_of m) w e))))
       ∙ on_accept (still os) s (unlock m) (pass_on s m (some w)) _ (ap (pass_on s m) e) refl (passed_finish m w h e)
 
@@ -195,7 +115,7 @@ module _ (os : List ℕ) (s : Model) (I : Inv s) where
       ∙ pass_on_lem m (leb-false (mutex_count s.tables) m e) (best_waiter s.tables (mutex_of m)) refl))))
 
   -- lock: a free mutex becomes the caller's, else the caller waits
-  module _ (m t r : ℕ) (run : s.running ≡ some r) (h : m < mutex_count s.tables) (valid : is_waiting_time t ≡ true) (under : Within (ceiling_of s.tables m) (priority_of s.tables r)) where
+  module _ (m t r : ℕ) (run : s.running ≡ some r) (h : m < mutex_count s.tables) (valid : is_waiting_time t ≡ true) where
     -- the end of a lock that meets a taken mutex, by the chain and the caller
     abbrev waits_by : List ℕ → ℕ → Plan
     waits_by chain x =
@@ -213,18 +133,25 @@ module _ (os : List ℕ) (s : Model) (I : Inv s) where
     unfolding caller_waits awaited_kind awaited_object occ
     ring_finish o e now clear = ap (λ z. dispatched (settled z)) (blocked_pack os s I r run (mutex_of m) t)
         ∙ settled_finish os s I (placed (with_tables s (begin_wait s.tables r (wait_for (mutex_of m) t))) none s.ready)
-        (facts_begin s.tables r (wait_for (mutex_of m) t) (caller_in s I r run) (caller_idle s I r run) (o, e) under (left_wait (mutex_of m) t refl valid now) clear I.facts) refl
+        (facts_begin s.tables r (wait_for (mutex_of m) t) (caller_in s I r run) (caller_idle s I r run) (o, e) tt (left_wait (mutex_of m) t refl valid now) clear I.facts) refl
         (λ i. omega (arith, I.places i, occ_append i s.tables.tasks.waiting (r ∷ []), ap (λ x. occ i (opt x)) run)) I.ascending
 
     lock_rest : (o : Option ℕ) → owner_of s.tables m ≡ o
-        → cond (eqb (id_of o) no_id) (answer_in (taking (pack os s) m) 0 0) (lock_waits (pack os s) m t)
+        → cond (eqb (id_of o) no_id) (answer_in (put_mutexes (pack os s) (owner_set (pack os s).mutexes m (pack os s).running)) 0 0) (lock_waits (pack os s) m t)
         ≡ ruled (still os) s (lock m t) ((3 when someb o and eqb t 0) ∷ (11 when someb o and held s)
         ∷ record { number = 12; when = someb o and of_caller s.running (λ q. closes_ring s.tables q (mutex_of m)); value = links_for s (mutex_of m) s.running } ∷ [])
     unfolding pack effect lock_by id_of someb ◌and◌ caller_waits
     lock_rest none e = on_row (still os) s (lock m t) _ _ refl (λ f. absurd (clash f refl)) (λ f. on_row (still os) s (lock m t) _ _ refl (λ g. absurd (clash g refl)) (λ g.
         on_row (still os) s (lock m t) _ _ refl (λ k. absurd (clash k refl)) (λ k.
         on_accept (still os) s (lock m t) (lock_by s m t r none) _ (called_some s s.running (λ q. lock_by s m t q (owner_of s.tables m)) r run ∙ ap (lock_by s m t r) e) refl
-        (taken_finish m r run h e under (ceiling_of s.tables m) refl))))
+        (ap (λ x. put_mutexes (pack os s) (owner_set (pack os s).mutexes m x)) (id_some s.running r run)
+        ∙ given_finish m (some r) h (facts_give s.tables m r h (caller_in s I r run) (caller_idle s I r run) I.facts) nobody))))
+      where
+        nobody : (i : ℕ) → awaits s.tables (mutex_of m) i ≡ false
+        nobody i = elim (which (awaits s.tables (mutex_of m) i)) [
+          | inl q ↦ none_some e (awaited_blocked s.tables (mutex_of m) (wait_of s.tables i) (I.facts.blocked i) q).1
+          | inr q ↦ q
+        ]
     lock_rest (some o) e = skipped _ _ _ (ne_eqb o no_id (λ q. omega (arith, I.facts.owners m o e, I.facts.few_tasks))) ∙ waits_same
         ∙ on_row (still os) s (lock m t) _ _ refl (λ f. chosen _ _ _ f) (λ f. skipped _ _ _ f
         ∙ on_row (still os) s (lock m t) _ _ refl (λ g. chosen _ _ _ g) (λ g. skipped _ _ _ g
@@ -243,6 +170,5 @@ module _ (os : List ℕ) (s : Model) (I : Inv s) where
   lock_pack m t = by_rows os s (lock m t) (on_caller (still os) s I (lock m t) _ (λ r a b run. on_row (still os) s (lock m t) _ _ refl (λ e. chosen _ _ _ e) (λ e. skipped _ _ _ e
       ∙ on_row (still os) s (lock m t) _ _ refl (λ f. skipped _ _ _ (time_test t ∙ not-true (is_waiting_time t) f)) (λ f. chosen _ _ _ (time_test t ∙ not-false (is_waiting_time t) f)
       ∙ on_row (still os) s (lock m t) _ _ refl (λ g. chosen _ _ _ (owns_test m r run ∙ g)) (λ g. skipped _ _ _ (owns_test m r run ∙ g)
-      ∙ on_row (still os) s (lock m t) _ _ refl (λ k. chosen _ _ _ (above_test m r run ∙ k)) (λ k. skipped _ _ _ (above_test m r run ∙ k)
-      ∙ ap (λ x. cond (eqb x no_id) (answer_in (taking (pack os s) m) 0 0) (lock_waits (pack os s) m t)) (owner_at_lem m)
-      ∙ lock_rest m t r run (leb-false (mutex_count s.tables) m e) (not-false (is_waiting_time t) f) (within_caller s m r run k) (owner_of s.tables m) refl))))))
+      ∙ ap (λ x. cond (eqb x no_id) (answer_in (put_mutexes (pack os s) (owner_set (pack os s).mutexes m (pack os s).running)) 0 0) (lock_waits (pack os s) m t)) (owner_at_lem m)
+      ∙ lock_rest m t r run (leb-false (mutex_count s.tables) m e) (not-false (is_waiting_time t) f) (owner_of s.tables m) refl)))))

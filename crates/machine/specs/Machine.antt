@@ -1,10 +1,10 @@
 -- The functions over the record that the steps are made of, case by case as the code goes. MachineLaws shows them, on a sound record, equal to the packed rules.
-use Rattle.std.specs.Prelude.{List, Bool, true, false, cond, not, ℕ, ◌+◌, ◌-◌, ◌*◌, ltb, leb, eqb, length, get_or, set, drop, replicate}
+use Rattle.std.specs.Prelude.{List, Bool, true, cond, not, ℕ, ◌+◌, ◌-◌, ◌*◌, ltb, leb, eqb, length, get_or, set, drop, replicate}
 use Rattle.lists.specs.Test.{◌and◌, allb}
 use Rattle.lists.specs.Count.{member}
 use Rattle.lists.specs.Order.{before}
 use Rattle.lists.specs.Table.{filled}
-use Rattle.rules.specs.Sizes.{max_tasks, task_places, max_mutexes, max_semaphores, max_queues, held_words, levels, ceiling_kind, max_hold, max_ticks, forever, granted, pending, timed_out, flushed, on_mutex, on_semaphore, on_time, on_send, on_receive}
+use Rattle.rules.specs.Sizes.{max_tasks, task_places, max_mutexes, max_semaphores, max_queues, held_words, levels, kinds, max_hold, max_ticks, forever, granted, pending, timed_out, flushed, on_mutex, on_semaphore, on_time, on_send, on_receive}
 use Rattle.rules.specs.Sound.{is_width, is_depth}
 use Rattle.rings.specs.Ring.{slot_of}
 use Rattle.rings.specs.Starts.{start_in}
@@ -12,7 +12,7 @@ use Rattle.rules.specs.Step.{level, outcome}
 use Rattle.rules.specs.Effect.{due}
 use Rattle.task_lists.specs.TaskList.{no_id, items, task_list_of, key_of, pushed, inserted, kept, tailed, inserted_flagged, every_id, counted, best_of}
 use Rattle.level_marks.specs.Marks.{marks_in, first_marked}
-use Rattle.walks.specs.Walk.{chain_from, lent}
+use Rattle.walks.specs.Walk.{chain_from}
 use Rattle.record.specs.Record.{ticks_left, due_at}
 use Rattle.record.specs.declared.State.{State}  -- keep
 use Rattle.record.specs.declared.Tasks.{Tasks}  -- keep
@@ -26,10 +26,10 @@ use Rattle.moves.specs.declared.Move.TheVariants.{Nothing, Hold as HoldWords, Qu
 use Rattle.record.specs.declared.Request.{Request}  -- keep
 use Rattle.machine.specs.declared.Order.{Order}  -- keep
 use Rattle.machine.specs.declared.Turn.{Turn}  -- keep
-use Rattle.record.specs.declared.Request.TheVariants.{Task, Mutex, CeilingMutex, Sem, Start, Lock, Unlock, Pend, Post, Flush, Sleep, Yield, Hold, Free, Tick, Level, Outcome, Queue, OwnedQueue, Send, Receive, Word}  -- keep
+use Rattle.record.specs.declared.Request.TheVariants.{Task, Mutex, Sem, Start, Lock, Unlock, Pend, Post, Flush, Sleep, Yield, Hold, Free, Tick, Level, Outcome, Queue, OwnedQueue, Send, Receive, Word}  -- keep
 use Rattle.record.specs.Setters.{put_tasks, put_semaphores, put_clock, put_mutexes, put_queues, put_ready, put_waiting, put_started, put_hold, put_running, put_level}
 use Rattle.record.specs.StepRecord.{answer_of}
-use Rattle.record.specs.Reads.{owner_at, ceiling_at, queue_owner_at, next_at, new_levels, count_at, maximum_at, first_id}
+use Rattle.record.specs.Reads.{owner_at, queue_owner_at, next_at, new_levels, count_at, maximum_at, first_id}
 
 unfoldable pub wait_begun : Tasks → ℕ → ℕ → ℕ → ℕ → ℕ → Tasks
 wait_begun t i kind object timed due = cond (ltb i task_places) (record {
@@ -170,7 +170,7 @@ blocked_on k r kind object t = put_running (put_waiting (put_tasks k (wait_begun
 
 -- objects
 unfoldable pub owner_set : Mutexes → ℕ → ℕ → Mutexes
-owner_set m j o = cond (ltb j max_mutexes) (record { kind = m.kind; ceiling = m.ceiling; owner = set m.owner j o; n = m.n }) m
+owner_set m j o = cond (ltb j max_mutexes) (record { kind = m.kind; owner = set m.owner j o; n = m.n }) m
 
 unfoldable pub count_set : Semaphores → ℕ → ℕ → Semaphores
 count_set c j v = cond (ltb j max_semaphores) (record { count = set c.count j v; maximum = c.maximum; n = c.n }) c
@@ -187,9 +187,8 @@ task_added t p = cond (ltb t.n task_places) (record {
   n = t.n + 1;
 }) t
 
--- a mutex more, with the number of its ceiling
-unfoldable pub mutex_added : Mutexes → ℕ → ℕ → Mutexes
-mutex_added m q c = cond (ltb m.n max_mutexes) (record { kind = set m.kind m.n q; ceiling = set m.ceiling m.n c; owner = m.owner; n = m.n + 1 }) m
+unfoldable pub mutex_added : Mutexes → ℕ → Mutexes
+mutex_added m q = cond (ltb m.n max_mutexes) (record { kind = set m.kind m.n q; owner = m.owner; n = m.n + 1 }) m
 
 unfoldable pub sem_added : Semaphores → ℕ → ℕ → Semaphores
 sem_added c count max = cond (ltb c.n max_semaphores) (record { count = set c.count c.n count; maximum = set c.maximum c.n max; n = c.n + 1 }) c
@@ -259,17 +258,12 @@ task_step k p =
     (answer_in (entered (put_tasks k (task_added k.tasks p)) k.tasks.n) 0 k.tasks.n)))
     (answer_in k 4 0)
 
-unfoldable pub mutex_made : State → ℕ → ℕ → Plan
-mutex_made k q c = cond (leb max_mutexes k.mutexes.n) (answer_in k 8 0) (answer_in (put_mutexes k (mutex_added k.mutexes q c)) 0 k.mutexes.n)
-
--- a kind without a ceiling, and the kind with one
 unfoldable pub mutex_step : State → ℕ → Plan
-mutex_step k q = cond (eqb k.started 0) (cond (leb ceiling_kind q) (answer_in k 7 0) (mutex_made k q no_id)) (answer_in k 4 0)
-
-unfoldable pub ceiling_mutex_step : State → ℕ → ℕ → Plan
-ceiling_mutex_step k q c =
+mutex_step k q =
     cond (eqb k.started 0)
-    (cond (eqb q ceiling_kind) (cond (leb levels c) (answer_in k 7 0) (mutex_made k q c)) (answer_in k 7 0))
+    (cond (leb kinds q) (answer_in k 7 0)
+    (cond (leb max_mutexes k.mutexes.n) (answer_in k 8 0)
+    (answer_in (put_mutexes k (mutex_added k.mutexes q)) 0 k.mutexes.n)))
     (answer_in k 4 0)
 
 unfoldable pub sem_step : State → ℕ → ℕ → Plan
@@ -307,22 +301,10 @@ lock_waits k m t =
     (cond (member k.running chain) (answer_in k 12 (length (before k.running chain)))
     (answer_in (dispatched (settled (blocked_on k k.running on_mutex m t))) 1 (length (before k.running chain))))
 
--- an own priority above a ceiling, by the ceiling's number
-unfoldable pub is_above : ℕ → ℕ → Bool
-is_above ceiling priority = cond (eqb ceiling no_id) false (ltb priority ceiling)
-
--- a free mutex becomes the caller's. A ceiling lifts the caller and nobody else, so that nobody moves; without one no level changes
-unfoldable pub taking : State → ℕ → State
-taking k m =
-    let owned = put_mutexes k (owner_set k.mutexes m k.running) in
-    let ceiling = ceiling_at k.mutexes m in
-    cond (eqb ceiling no_id) owned (put_tasks owned (put_level k.tasks (lent k.tasks.level k.running ceiling)))
-
 abbrev pub lock_on : State → ℕ → ℕ → Plan
 lock_on k m t =
     cond (eqb (owner_at k.mutexes m) k.running) (answer_in k 9 0)
-    (cond (is_above (ceiling_at k.mutexes m) (key_of k.tasks.priority k.running)) (answer_in k 16 0)
-    (cond (eqb (owner_at k.mutexes m) no_id) (answer_in (taking k m) 0 0) (lock_waits k m t)))
+    (cond (eqb (owner_at k.mutexes m) no_id) (answer_in (put_mutexes k (owner_set k.mutexes m k.running)) 0 0) (lock_waits k m t))
 
 unfoldable pub lock_step : State → ℕ → ℕ → Plan
 lock_step k m t = called_by k
@@ -332,18 +314,9 @@ lock_step k m t = called_by k
 abbrev pub best_at : State → ℕ → ℕ → ℕ
 best_at k kind object = best_of k.waiting k.tasks.wait k.tasks.object k.tasks.level kind object
 
--- a mutex for which nobody waits becomes free. With a ceiling the caller falls back, and may be displaced; without one no level changes
-unfoldable pub freeing : State → ℕ → State
-freeing k m =
-    let freed = put_mutexes k (owner_set k.mutexes m no_id) in
-    cond (eqb (ceiling_at k.mutexes m) no_id) freed (dispatched (settled freed))
-
--- the best waiter w gets the mutex, and its wait ends
-abbrev pub passing : State → ℕ → ℕ → State
-passing k m w = dispatched (entered (settled (put_mutexes (woke k (single w) granted granted) (owner_set k.mutexes m w))) w)
-
 unfoldable pub passed_to : State → ℕ → ℕ → State
-passed_to k m w = cond (eqb w no_id) (freeing k m) (passing k m w)
+passed_to k m w = cond (eqb w no_id) (put_mutexes k (owner_set k.mutexes m no_id))
+    (dispatched (entered (settled (put_mutexes (woke k (single w) granted granted) (owner_set k.mutexes m w))) w))
 
 unfoldable pub unlock_step : State → ℕ → Plan
 unlock_step k m = called_by k
@@ -505,7 +478,6 @@ word_step k i n words = cond (leb k.tasks.n i) (answer_in k 6 0) (cond (leb held
 unfoldable pub machine_step : State → Request → ℕ → ℕ → List ℕ → Plan
 machine_step k (Task p) count space words = task_step k p
 machine_step k (Mutex q) count space words = mutex_step k q
-machine_step k (CeilingMutex q c) count space words = ceiling_mutex_step k q c
 machine_step k (Sem n max) count space words = sem_step k n max
 machine_step k Start count space words = start_step k
 machine_step k (Lock m t) count space words = lock_step k m t

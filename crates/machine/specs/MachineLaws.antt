@@ -29,7 +29,7 @@ use Rattle.record.specs.StepStandsLaws.{oldest_back}
 use Rattle.record.specs.DemandRecordLaws.{whole_pack, view_stands, step_of_sound}
 use Rattle.machine.specs.Machine.{machine_step}
 use Rattle.machine.specs.Planned.{carried}
-use Rattle.machine.specs.PlainStepLaws.{level_step_pack, outcome_pack, hold_pack, free_pack, start_pack, yield_pack, mutex_pack, ceiling_mutex_pack, sem_pack, task_pack}
+use Rattle.machine.specs.PlainStepLaws.{level_step_pack, outcome_pack, hold_pack, free_pack, start_pack, yield_pack, mutex_pack, sem_pack, task_pack}
 use Rattle.machine.specs.WaitStepLaws.{sleep_pack, pend_pack, post_pack, flush_pack}
 use Rattle.machine.specs.LockStepLaws.{unlock_pack, lock_pack}
 use Rattle.machine.specs.TickStepLaws.{tick_pack}
@@ -38,7 +38,7 @@ use Rattle.machine.specs.ReceiveStepLaws.{empty_pack, took_pack, swapped_pack}
 use Rattle.machine.specs.QueueSetUpLaws.{word_pack, queue_pack, owned_queue_pack}
 use Rattle.machine.specs.PerformLaws.{is_quiet, carried_ruled, carried_still, carried_quiet, queue_good, full_good, tail_good, handed_good, empty_good, took_good, swapped_good}
 use Rattle.record.specs.declared.Request.{Request}  -- keep
-use Rattle.record.specs.declared.Request.TheVariants.{Task, Mutex, CeilingMutex, Sem, Start, Lock, Unlock, Pend, Post, Flush, Sleep, Yield, Hold, Free, Tick, Level, Outcome, Queue, OwnedQueue, Send, Receive, Word}  -- keep
+use Rattle.record.specs.declared.Request.TheVariants.{Task, Mutex, Sem, Start, Lock, Unlock, Pend, Post, Flush, Sleep, Yield, Hold, Free, Tick, Level, Outcome, Queue, OwnedQueue, Send, Receive, Word}  -- keep
 use Rattle.rules.specs.State.{State as Model}  -- keep
 use Rattle.rules.specs.Answer.{is_formed, step_sound}  -- keep
 
@@ -96,8 +96,7 @@ module _ (s : Model) (I : Inv s) (os b : List ℕ) (S : Stands os b s.tables.que
   step_carried : (x : Request) (m : List ℕ) → gives x m ≡ after_for (packed os b s) (step_for x m) (step_sound s (step_for x m))
   unfolding machine_step step_for oldest_for block_for is_quiet
   step_carried (Task p) m = carried_still s I os b S (task p) m (λ n. (oldest_back s I os b S, refl)) (added p) (task_pack os s I p)
-  step_carried (Mutex q) m = carried_quiet s I os b S (mutex q none) m refl (λ n. (oldest_back s I os b S, refl)) (mutex_pack os s I q)
-  step_carried (CeilingMutex q c) m = carried_quiet s I os b S (mutex q (some c)) m refl (λ n. (oldest_back s I os b S, refl)) (ceiling_mutex_pack os s I q c)
+  step_carried (Mutex q) m = carried_quiet s I os b S (mutex q) m refl (λ n. (oldest_back s I os b S, refl)) (mutex_pack os s I q)
   step_carried (Sem n max) m = carried_quiet s I os b S (sem n max) m refl (λ n. (oldest_back s I os b S, refl)) (sem_pack os s I n max)
   step_carried Start m = carried_quiet s I os b S start m refl (λ n. (oldest_back s I os b S, refl)) (start_pack os s I)
   step_carried (Lock j t) m = carried_quiet s I os b S (lock j t) m refl (λ n. (oldest_back s I os b S, refl)) (lock_pack os s I j t)

@@ -13,10 +13,9 @@ use Rattle.lists.specs.TestLaws.{which, clash}
 use Rattle.lists.specs.TableLaws.{snoc_default, snoc_last, length_snoc, length_filled, filled_ext, pad_set, pad_snoc}
 use Rattle.chains.specs.Least.{least_leading}
 use Rattle.rules.specs.Sizes.{task_places, max_mutexes, max_semaphores, levels}
-use Rattle.rules.specs.Levels.{heir_awaited, of_wait, lends, own_level, level_in, same_awaited, wait_is_for, awaits}
+use Rattle.rules.specs.Levels.{heir_awaited, of_wait, lends, level_in, same_awaited, wait_is_for, awaits}
 use Rattle.rules.specs.Effect.{set_messages, hands, add_task, add_mutex, add_sem, give, set_count, begin_wait, end_waits, age, age_all}
 use Rattle.rules.specs.Invariant.{Facts}
-use Rattle.rules.specs.CeilingLaws.{own_free, own_give, own_same}
 use Rattle.rules.specs.FactsLaws.{wait_ended}
 use Rattle.rules.specs.WaiterLaws.{awaited_self, level_alone}
 use Rattle.rules.specs.CreationLaws.{facts_add_task}
@@ -25,13 +24,13 @@ use Rattle.record.specs.Record.{kind_code, object_code, timed_code, due_code, pa
 use Rattle.machine.specs.Machine.{owner_set, count_set, task_added, mutex_added, sem_added}
 use Rattle.record.specs.PackLaws.{same_tasks, same_mutexes, same_semaphores}
 use Rattle.record.specs.ColumnLaws.{chosen, pad_default, map_set, map_snoc}
-use Rattle.rules.specs.Tables.{Awaited, mutex_of, sem_of, room_in, message_in, time, Wait, TaskTable, SemTable, Tables, with_tasks, with_semaphores, task_count, mutex_count, sem_count, priority_of, wait_of, ceiling_of, owner_of}  -- keep
+use Rattle.rules.specs.Tables.{Awaited, mutex_of, sem_of, room_in, message_in, time, Wait, TaskTable, SemTable, Tables, with_tasks, with_semaphores, task_count, mutex_count, sem_count, priority_of, wait_of}  -- keep
 
 module _ (t : Tables) (F : Facts t) where
   pub owner_set_lem : (m : ℕ) (o : Option ℕ) → m < mutex_count t → owner_set (pack_mutexes t) m (id_of o) ≡ pack_mutexes (give t m o)
   unfolding owner_set pack_mutexes
   owner_set_lem m o h = chosen _ _ _ (lt-ltb m max_mutexes (omega (arith, F.few_mutexes)))
-      ∙ same_mutexes _ _ refl refl (pad_set max_mutexes no_id (map id_of t.mutexes.owners) m (id_of o) (omega (arith, length-map t.mutexes.owners id_of)) ∙ ap (pad max_mutexes no_id) (sym (map_set id_of t.mutexes.owners m o)))
+      ∙ same_mutexes _ _ refl (pad_set max_mutexes no_id (map id_of t.mutexes.owners) m (id_of o) (omega (arith, length-map t.mutexes.owners id_of)) ∙ ap (pad max_mutexes no_id) (sym (map_set id_of t.mutexes.owners m o)))
       (sym (length-set t.mutexes.owners m o))
 
   pub count_set_lem : (k v : ℕ) → k < sem_count t → count_set (pack_semaphores t) k v ≡ pack_semaphores (set_count t k v)
@@ -39,13 +38,10 @@ module _ (t : Tables) (F : Facts t) where
   count_set_lem k v h = chosen _ _ _ (lt-ltb k max_semaphores (omega (arith, F.few_semaphores)))
       ∙ same_semaphores _ _ (pad_set max_semaphores 0 t.semaphores.counts k v h) refl (sym (length-set t.semaphores.counts k v))
 
-  pub mutex_added_lem : (q : ℕ) (c : Option ℕ) → mutex_count t < max_mutexes → mutex_added (pack_mutexes t) q (id_of c) ≡ pack_mutexes (add_mutex t q c)
+  pub mutex_added_lem : (q : ℕ) → mutex_count t < max_mutexes → mutex_added (pack_mutexes t) q ≡ pack_mutexes (add_mutex t q)
   unfolding mutex_added pack_mutexes id_of
-  mutex_added_lem q c h = chosen _ _ _ (lt-ltb (mutex_count t) max_mutexes h)
+  mutex_added_lem q h = chosen _ _ _ (lt-ltb (mutex_count t) max_mutexes h)
       ∙ same_mutexes _ _ (ap (λ i. set (pad max_mutexes 0 t.mutexes.kinds) i q) (sym F.kind_column) ∙ pad_snoc max_mutexes 0 t.mutexes.kinds q (omega (arith, F.kind_column)))
-      (ap (λ i. set (pad max_mutexes no_id (map id_of t.mutexes.ceilings)) i (id_of c)) (sym (length-map t.mutexes.ceilings id_of ∙ F.ceiling_column))
-      ∙ pad_snoc max_mutexes no_id (map id_of t.mutexes.ceilings) (id_of c) (omega (arith, length-map t.mutexes.ceilings id_of, F.ceiling_column))
-      ∙ ap (pad max_mutexes no_id) (sym (map_snoc id_of t.mutexes.ceilings c)))
       (sym (ap (pad max_mutexes no_id) (map_snoc id_of t.mutexes.owners none) ∙ pad_default max_mutexes no_id (map id_of t.mutexes.owners) (omega (arith, length-map t.mutexes.owners id_of))))
       (sym (length-append t.mutexes.owners (none ∷ [])))
 
@@ -56,15 +52,10 @@ module _ (t : Tables) (F : Facts t) where
       (ap (λ i. set (pad max_semaphores 0 t.semaphores.maxima) i max) (sym F.maximum_column) ∙ pad_snoc max_semaphores 0 t.semaphores.maxima max (omega (arith, F.maximum_column)))
       (sym (length-append t.semaphores.counts (count ∷ [])))
 
--- levels stay where nobody lends otherwise, and tasks by themselves are as urgent as they were
-pub level_by : (t t' : Tables) → ((i : ℕ) → lends t' i ≡ lends t i) → task_count t' ≡ task_count t → ((i : ℕ) → own_level t' i ≡ own_level t i) → (i : ℕ) → level_in t' i ≡ level_in t i
+-- levels stay where nobody lends otherwise
+pub level_same : (t t' : Tables) → ((i : ℕ) → lends t' i ≡ lends t i) → t'.tasks.priorities ≡ t.tasks.priorities → (i : ℕ) → level_in t' i ≡ level_in t i
 unfolding level_in
-level_by t t' h n e i = ap (λ (k : ℕ). least_leading k (lends t') (own_level t') i) n ∙ ap (λ (f : ℕ → Option ℕ). least_leading (task_count t) f (own_level t') i) (fun_ext h)
-    ∙ ap (λ (f : ℕ → ℕ). least_leading (task_count t) (lends t) f i) (fun_ext e)
-
--- as they are where priorities and mutexes stay
-pub level_same : (t t' : Tables) → ((i : ℕ) → lends t' i ≡ lends t i) → t'.mutexes ≡ t.mutexes → t'.tasks.priorities ≡ t.tasks.priorities → (i : ℕ) → level_in t' i ≡ level_in t i
-level_same t t' h m e = level_by t t' h (ap length e) (own_same t t' m e)
+level_same t t' h e i = ap (λ (l : List ℕ). least_leading (length l) (lends t') (λ j. get_or l j 0) i) e ∙ ap (λ (f : ℕ → Option ℕ). least_leading (task_count t) f (priority_of t) i) (fun_ext h)
 
 -- who lends to whom, where mutexes and owners of queues stay as they are
 lends_kept : (t : Tables) (x : TaskTable) (c : SemTable) (i : ℕ) → lends (with_tasks (with_semaphores t c) x) i ≡ of_wait (heir_awaited t) (get_or x.waits i none)
@@ -113,10 +104,6 @@ module _ (t : Tables) where
       go none e = refl
       go (some w) e = heir w.on e
 
-  -- so that levels stay where it has no ceiling
-  pub level_give : (m : ℕ) (o : Option ℕ) → ((i : ℕ) → awaits t (mutex_of m) i ≡ false) → ceiling_of t m ≡ none → (i : ℕ) → level_in (give t m o) i ≡ level_in t i
-  level_give m o h e = level_by t (give t m o) (lends_give m o h) refl (own_give t m o e)
-
   -- semaphores lend nothing
   pub lends_semaphores : (c : SemTable) (i : ℕ) → lends (with_semaphores t c) i ≡ lends t i
   lends_semaphores c i = lends_kept t t.tasks c i ∙ sym (lends_kept t t.tasks t.semaphores i)
@@ -154,8 +141,8 @@ module _ (t : Tables) where
   unfolding lends of_wait
   lends_none i e = rw e refl
 
--- a task made while nobody waits and nothing is owned
-module _ (t : Tables) (F : Facts t) (silent : (i : ℕ) → wait_of t i ≡ none) (free : (m : ℕ) → owner_of t m ≡ none) (p : ℕ) (low : p < levels) (room : task_count t < task_places) where
+-- a task made while nobody waits
+module _ (t : Tables) (F : Facts t) (silent : (i : ℕ) → wait_of t i ≡ none) (p : ℕ) (low : p < levels) (room : task_count t < task_places) where
   new_facts : Facts (add_task t p)
   new_facts = facts_add_task t p low room F
 
@@ -163,13 +150,13 @@ module _ (t : Tables) (F : Facts t) (silent : (i : ℕ) → wait_of t i ≡ none
   more = length_snoc t.tasks.priorities p
 
   new_level : (i : ℕ) → i < suc (task_count t) → level_in (add_task t p) i ≡ priority_of (add_task t p) i
-  new_level i h = level_alone (add_task t p) new_facts (λ j. snoc_default none t.tasks.waits j ∙ silent j) i (omega (arith, more)) ∙ own_free (add_task t p) free i
+  new_level i h = level_alone (add_task t p) new_facts (λ j. snoc_default none t.tasks.waits j ∙ silent j) i (omega (arith, more))
 
   made_level : level_in (add_task t p) (task_count t) ≡ p
   made_level = new_level (task_count t) (omega arith) ∙ snoc_last p 0 t.tasks.priorities
 
   pub old_level : (i : ℕ) → i < task_count t → level_in (add_task t p) i ≡ level_in t i
-  old_level i h = new_level i (omega arith) ∙ (get_or-append t.tasks.priorities (p ∷ []) 0 i h ∙ sym (level_alone t F silent i h ∙ own_free t free i))
+  old_level i h = new_level i (omega arith) ∙ (get_or-append t.tasks.priorities (p ∷ []) 0 i h ∙ sym (level_alone t F silent i h))
 
   level_added : set (pad task_places 0 (filled (task_count t) (level_in t))) (task_count t) p ≡ pad task_places 0 (filled (task_count (add_task t p)) (level_in (add_task t p)))
   unfolding filled

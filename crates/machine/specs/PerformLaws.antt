@@ -50,7 +50,7 @@ use Rattle.rules.specs.Answer.{decide, step_sound}  -- keep
 -- steps that leave the words held as they are
 unfoldable pub is_quiet : Step → Bool
 is_quiet (task p) = false
-is_quiet (mutex k c) = true
+is_quiet (mutex k) = true
 is_quiet (sem count max) = true
 is_quiet start = true
 is_quiet (lock m t) = true
@@ -77,7 +77,7 @@ module _ (s : Model) where
   pub quiet_words : (y : Step) → is_quiet y ≡ true → Kept (effect s y)
   unfolding is_quiet effect caller_waits lock_by pass_on pend_by credit flush_of tick_of yield_by
   quiet_words (task p) e = absurd (clash e refl)
-  quiet_words (mutex k c) e = refl
+  quiet_words (mutex k) e = refl
   quiet_words (sem count max) e = refl
   quiet_words start e = refl
   quiet_words (lock m t) e = caller_by Kept s s.running _ refl (λ r. go r (owner_of s.tables m))

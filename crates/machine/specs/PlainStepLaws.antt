@@ -1,28 +1,23 @@
 -- Steps that begin and end no wait, on a packed sound state: each is the packed rule.
-use Rattle.std.specs.Prelude.{◌≡◌, true, false, cond, not, ltb, leb, eqb, length, get_or}
+use Rattle.std.specs.Prelude.{◌≡◌, true, false, ltb, eqb, length, get_or}
 use Rattle.std.proofs.Math.Path.{refl, ap}
-use Rattle.std.proofs.Common.{sym, ◌∙◌, inl, inr, arith}
+use Rattle.std.proofs.Common.{sym, ◌∙◌, arith}
 use mathlib.Core.List.{List, [], ◌∷◌}
-use Rattle.std.proofs.Math.Option.{Option, none, some}
+use Rattle.std.proofs.Math.Option.{none, some}
 use Prim.Native.Nat.{ℕ, ◌+◌, ◌-◌, ◌≤◌, ◌<◌}
-use Rattle.std.proofs.Math.Decide.{ℕ_discrete, dec_lt}
-use borrow.Author.Tests.{ltb-false, leb-false, eqb-false, not-false, lt-ltb, le-ltb, le-leb, lt-leb, ne_eqb}
-use Rattle.lists.specs.Test.{◌and◌}
+use borrow.Author.Tests.{ltb-false, leb-false, eqb-false}
 use Rattle.lists.specs.Count.{occ, opt}
 use Rattle.lists.specs.Order.{insert_tail}
-use Rattle.lists.specs.TestLaws.{which, clash, or_none}
+use Rattle.lists.specs.TestLaws.{clash, or_none}
 use Rattle.lists.specs.CountLaws.{below_le, pigeonhole}
-use Rattle.lists.specs.TableLaws.{get_d_pad, snoc_default}
-use Rattle.rules.specs.Sizes.{max_tasks, task_places, max_mutexes, max_semaphores, levels, kinds, ceiling_kind}
+use Rattle.lists.specs.TableLaws.{get_d_pad}
+use Rattle.rules.specs.Sizes.{max_tasks, task_places, max_mutexes, max_semaphores, levels, kinds}
 use Rattle.rules.specs.Levels.{level_in}
 use Rattle.rules.specs.Step.{task, mutex, sem, start, yield, hold, free, level, outcome}
 use Rattle.rules.specs.Effect.{done, add_task, add_mutex, add_sem, yield_by, effect}
 use Rattle.rules.specs.Settle.{settled_ready, settle, dispatch}
-use Rattle.rules.specs.Refusal.{◌when◌, refusals}
-use Rattle.rules.specs.Sound.{mutexb}
-use Rattle.rules.specs.Invariant.{MutexFits, Inv}
-use Rattle.rules.specs.CeilingLaws.{own_free}
-use Rattle.rules.specs.SoundLaws.{mutex_true}
+use Rattle.rules.specs.Refusal.{refusals}
+use Rattle.rules.specs.Invariant.{Inv}
 use Rattle.rules.specs.SettleLaws.{settled_one}
 use Rattle.rules.specs.WaiterLaws.{wait_none}
 use Rattle.rules.specs.CreationLaws.{facts_add_mutex, facts_add_sem, ready_in}
@@ -31,37 +26,19 @@ use Rattle.task_lists.specs.TaskListLaws.{tail_task_list_of}
 use Rattle.machine.specs.Planned.{plan_for}
 use Rattle.moves.specs.declared.Move.TheVariants.{Nothing}  -- keep
 use Rattle.record.specs.Record.{pack_tasks, pack_mutexes, pack_semaphores, pack}
-use Rattle.machine.specs.Machine.{dispatched, entered, task_added, answer_in, task_step, mutex_made, mutex_step, ceiling_mutex_step, sem_step, start_step, yield_step, hold_step, free_step, level_step, outcome_step}
+use Rattle.machine.specs.Machine.{dispatched, entered, task_added, answer_in, task_step, mutex_step, sem_step, start_step, yield_step, hold_step, free_step, level_step, outcome_step}
 use Rattle.record.specs.PackLaws.{level_column, pack_with}
 use Rattle.record.specs.ReadLaws.{key_levels, level_read}
 use Rattle.record.specs.ColumnLaws.{chosen, skipped}
 use Rattle.machine.specs.StageLaws.{unchanged_pack}
-use Rattle.machine.specs.ObjectLaws.{mutex_added_lem, sem_added_lem, level_by, lends_none, old_level, task_added_lem}
-use Rattle.machine.specs.RowLaws.{still, ruled, by_rows, on_row, on_accept, held_on, held_off, either, called_some, id_some, on_caller, on_set_up}
+use Rattle.machine.specs.ObjectLaws.{mutex_added_lem, sem_added_lem, level_same, lends_none, old_level, task_added_lem}
+use Rattle.machine.specs.RowLaws.{still, by_rows, on_row, on_accept, held_on, held_off, either, called_some, id_some, on_caller, on_set_up}
 use Rattle.machine.specs.FinishLaws.{dispatch_still, quiet_pack, one_finish, unchanged_finish}
 use Rattle.record.specs.Setters.{put_ready, put_running, put_mutexes, put_semaphores, put_tasks}  -- keep
 use Rattle.rules.specs.State.{State as Model, level_of, placed, with_tables}  -- keep
 use Rattle.rules.specs.State.{with_hold, with_started}  -- keep
-use Rattle.rules.specs.Tables.{Tables, task_count, mutex_count, sem_count, outcome_of, wait_of, owner_of}  -- keep
+use Rattle.rules.specs.Tables.{Tables, task_count, mutex_count, sem_count, outcome_of, wait_of}  -- keep
 use Rattle.rules.specs.Answer.{step_sound}  -- keep
-
--- which kinds and ceilings fit, as the code asks
-plain_kind : (q : ℕ) → leb ceiling_kind q ≡ not (mutexb q none)
-unfolding mutexb ◌and◌
-plain_kind q = elim (dec_lt q ceiling_kind) [
-  | yes h ↦ rw (lt-leb ceiling_kind q h, lt-ltb q kinds (omega arith), ne_eqb q ceiling_kind (λ e. omega arith)) refl
-  | no h ↦ elim (ℕ_discrete q ceiling_kind) [
-    | yes e ↦ rw e refl
-    | no n ↦ rw (le-leb ceiling_kind q (omega arith), le-ltb q kinds (omega arith)) refl
-  ]
-]
-
-ceiling_kind_lem : {A : Type 0} (q c : ℕ) (x y : A) → cond (eqb q ceiling_kind) (cond (leb levels c) x y) x ≡ cond (not (mutexb q (some c))) x y
-unfolding mutexb ◌and◌
-ceiling_kind_lem q c x y = elim (which (eqb q ceiling_kind)) [
-  | inl e ↦ rw e (elim (dec_lt c levels) [ yes h ↦ rw (lt-ltb c levels h, lt-leb levels c h) refl | no h ↦ rw (le-ltb c levels (omega arith), le-leb levels c (omega arith)) refl ])
-  | inr e ↦ rw e refl
-]
 
 module _ (os : List ℕ) (s : Model) (I : Inv s) where
   -- nothing changes
@@ -116,32 +93,18 @@ module _ (os : List ℕ) (s : Model) (I : Inv s) where
     silent : (i : ℕ) → wait_of s.tables i ≡ none
     silent i = wait_none (wait_of s.tables i) (sym (I.facts.waiting i) ∙ (I.at_set_up off).nobody_waits i)
 
-    unowned : (m : ℕ) → owner_of s.tables m ≡ none
-    unowned = (I.at_set_up off).nothing_owned
+    -- nobody lends, before and after
+    lone : (t : Tables) → t.tasks.waits ≡ s.tables.tasks.waits → t.tasks.priorities ≡ s.tables.tasks.priorities → (i : ℕ) → level_in t i ≡ level_of s i
+    lone t e f = level_same s.tables t (λ i. lends_none t i (ap (λ l. get_or l i none) e ∙ silent i) ∙ sym (lends_none s.tables i (silent i))) f
 
-    -- nobody lends and no ceiling lifts, before and after
-    lone : (t : Tables) → t.tasks.waits ≡ s.tables.tasks.waits → t.tasks.priorities ≡ s.tables.tasks.priorities → ((m : ℕ) → owner_of t m ≡ none) → (i : ℕ) → level_in t i ≡ level_of s i
-    lone t e f nobody = level_by s.tables t (λ i. lends_none t i (ap (λ l. get_or l i none) e ∙ silent i) ∙ sym (lends_none s.tables i (silent i))) (ap length f)
-        (λ i. own_free t nobody i ∙ (ap (λ l. get_or l i 0) f ∙ sym (own_free s.tables unowned i)))
-
-    -- a mutex that fits is made where there is room for it
-    made_mutex : (q : ℕ) (c : Option ℕ) → MutexFits q c → mutex_made (pack os s) q (id_of c) ≡ ruled (still os) s (mutex q c) ((8 when leb max_mutexes (mutex_count s.tables)) ∷ [])
-    unfolding mutex_made pack pack_tasks pack_mutexes pack_semaphores pack_with level_column effect
-    made_mutex q c fits = on_row (still os) s (mutex q c) _ _ refl (λ f. chosen _ _ _ f) (λ f. skipped _ _ _ f
-        ∙ on_accept (still os) s (mutex q c) (done (with_tables s (add_mutex s.tables q c)) [] (mutex_count s.tables)) _ refl refl
-        (ap (put_mutexes (pack os s)) (mutex_added_lem s.tables I.facts q c (leb-false max_mutexes (mutex_count s.tables) f))
-        ∙ quiet_pack os s I (add_mutex s.tables q c) s.clock s.hold (facts_add_mutex s.tables q c fits (leb-false max_mutexes (mutex_count s.tables) f) silent I.facts) refl refl
-        (lone (add_mutex s.tables q c) refl refl (λ m. snoc_default none s.tables.mutexes.owners m ∙ unowned m)) (λ z. z)))
-
-  pub mutex_pack : (q : ℕ) → mutex_step (pack os s) q ≡ plan_for os Nothing (step_sound s (mutex q none))
-  unfolding mutex_step pack refusals id_of
-  mutex_pack q = by_rows os s (mutex q none) (on_set_up (still os) s I (mutex q none) _ (λ off. on_row (still os) s (mutex q none) _ _ refl (λ e. chosen _ _ _ (plain_kind q ∙ e)) (λ e. skipped _ _ _ (plain_kind q ∙ e)
-      ∙ made_mutex off q none (mutex_true q none (not-false (mutexb q none) e)))))
-
-  pub ceiling_mutex_pack : (q c : ℕ) → ceiling_mutex_step (pack os s) q c ≡ plan_for os Nothing (step_sound s (mutex q (some c)))
-  unfolding ceiling_mutex_step pack refusals id_of
-  ceiling_mutex_pack q c = by_rows os s (mutex q (some c)) (on_set_up (still os) s I (mutex q (some c)) _ (λ off. ceiling_kind_lem q c _ _ ∙ on_row (still os) s (mutex q (some c)) _ _ refl (λ e. chosen _ _ _ e) (λ e. skipped _ _ _ e
-      ∙ made_mutex off q (some c) (mutex_true q (some c) (not-false (mutexb q (some c)) e)))))
+  pub mutex_pack : (q : ℕ) → mutex_step (pack os s) q ≡ plan_for os Nothing (step_sound s (mutex q))
+  unfolding mutex_step pack pack_tasks pack_mutexes pack_semaphores pack_with level_column refusals effect
+  mutex_pack q = by_rows os s (mutex q) (on_set_up (still os) s I (mutex q) _ (λ off. on_row (still os) s (mutex q) _ _ refl (λ e. chosen _ _ _ e) (λ e. skipped _ _ _ e
+      ∙ on_row (still os) s (mutex q) _ _ refl (λ f. chosen _ _ _ f) (λ f. skipped _ _ _ f
+      ∙ on_accept (still os) s (mutex q) (done (with_tables s (add_mutex s.tables q)) [] (mutex_count s.tables)) _ refl refl
+      (ap (put_mutexes (pack os s)) (mutex_added_lem s.tables I.facts q (leb-false max_mutexes (mutex_count s.tables) f))
+      ∙ quiet_pack os s I (add_mutex s.tables q) s.clock s.hold
+      (facts_add_mutex s.tables q (leb-false kinds q e) (leb-false max_mutexes (mutex_count s.tables) f) I.facts) refl refl (lone off (add_mutex s.tables q) refl refl) (λ z. z))))))
 
   pub sem_pack : (count max : ℕ) → sem_step (pack os s) count max ≡ plan_for os Nothing (step_sound s (sem count max))
   unfolding sem_step pack pack_tasks pack_mutexes pack_semaphores pack_with level_column refusals effect
@@ -153,7 +116,7 @@ module _ (os : List ℕ) (s : Model) (I : Inv s) where
       (ap (put_semaphores (pack os s)) (sem_added_lem s.tables I.facts count max room)
       ∙ quiet_pack os s I (add_sem s.tables count max) s.clock s.hold
       (facts_add_sem s.tables count max (omega (arith, eqb-false max 0 d.0)) (ltb-false max count d.1) room I.facts) refl refl
-      (lone off (add_sem s.tables count max) refl refl (unowned off)) (λ z. z)))))))
+      (lone off (add_sem s.tables count max) refl refl) (λ z. z)))))))
 
   -- "A task becomes ready at the tail of its level."
   module _ (off : s.started ≡ false) (p : ℕ) (low : p < levels) (room : task_count s.tables < task_places) where
@@ -165,7 +128,7 @@ module _ (os : List ℕ) (s : Model) (I : Inv s) where
 
     order : settled_ready (task_count grown) (level_of s) (level_in grown) s.ready (task_count s.tables ∷ []) ≡ insert_tail (level_in grown) (task_count s.tables) s.ready
     order = settled_one (task_count grown) (task_count s.tables) (level_of s) (level_in grown) s.ready
-        (λ i m. old_level s.tables I.facts (silent off) (unowned off) p low room i (ready_in s I i m)) I.ascending
+        (λ i m. old_level s.tables I.facts (silent off) p low room i (ready_in s I i m)) I.ascending
 
     last : tailed (task_list_of s.ready) (pack_tasks grown s.clock).level (task_count s.tables)
         ≡ task_list_of (settled_ready (task_count grown) (level_of s) (level_in grown) s.ready (task_count s.tables ∷ []))
@@ -177,7 +140,7 @@ module _ (os : List ℕ) (s : Model) (I : Inv s) where
     unfolding entered pack pack_mutexes pack_semaphores pack_tasks
     made_pack =
         ap (λ z. put_ready (put_tasks (pack os s) z) (tailed (task_list_of s.ready) z.level (task_count s.tables)))
-        (task_added_lem s.tables I.facts (silent off) (unowned off) p low room s.clock)
+        (task_added_lem s.tables I.facts (silent off) p low room s.clock)
         ∙ ap (λ q. put_ready (put_tasks (pack os s) (pack_tasks grown s.clock)) q) last
         ∙ ap (pack os) (sym (dispatch_still (settle (level_of s) (with_tables s grown) (task_count s.tables ∷ [])) (λ e. absurd (clash e off))))
 

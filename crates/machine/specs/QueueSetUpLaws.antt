@@ -96,7 +96,7 @@ module _ (os : List ℕ) (s : Model) (I : Inv s) where
         (ap (put_queues (pack os s)) (queue_added_lem s.tables I.facts os w d p few column)
         ∙ quiet_pack (os ++ (0 ∷ [])) s I (add_queue s.tables w d p) s.clock s.hold
         (facts_add_queue s.tables w d p (and_l _ _ g) h.0 h.1 (exists_true (task_count s.tables) p there) few (ltb-false s.tables.queues.space (space_taken s.tables + w * d) k.1) silent I.facts) refl refl
-        (level_same s.tables (add_queue s.tables w d p) (λ i. lends_none (add_queue s.tables w d p) i (silent i) ∙ sym (lends_none s.tables i (silent i))) refl refl) (λ z. z)))))
+        (level_same s.tables (add_queue s.tables w d p) (λ i. lends_none (add_queue s.tables w d p) i (silent i) ∙ sym (lends_none s.tables i (silent i))) refl) (λ z. z)))))
       where
         silent : (i : ℕ) → wait_of s.tables i ≡ none
         silent i = wait_none (wait_of s.tables i) (sym (I.facts.waiting i) ∙ (I.at_set_up off).nobody_waits i)

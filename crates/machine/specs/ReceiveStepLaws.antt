@@ -126,7 +126,7 @@ module _ (os : List ℕ) (s : Model) (I : Inv s) where
             (called_some s s.running (λ z. receive_by s q t z (messages_of s.tables q)) r run ∙ ap (receive_by s q t r) e ∙ ap (take_in s q r m ms) best) refl
             (quiet_pack (set os q turn) s I (hands (set_messages s.tables q ms) r m) s.clock s.hold
             (took_facts s.tables I.facts q low m ms e r (caller_in s I r run) (caller_idle s I r run) best) refl refl
-            (level_same s.tables (hands (set_messages s.tables q ms) r m) (λ i. lends_hands (set_messages s.tables q ms) r m i ∙ lends_messages s.tables q ms i) refl refl) (λ z. z)))
+            (level_same s.tables (hands (set_messages s.tables q ms) r m) (λ i. lends_hands (set_messages s.tables q ms) r m i ∙ lends_messages s.tables q ms i) refl) (λ z. z)))
           where
             made : Queues → ℕ → ℕ → Plan
             made y p w = answer_moving (put_queues (pack os s) y) 0 0 (Take p w (pack os s).running)
@@ -168,7 +168,7 @@ module _ (os : List ℕ) (s : Model) (I : Inv s) where
           off_finish none own k f = enters k (f ∙ unchanged_pack (set os q turn) s (with_tables s ready) refl I.ascending
               (λ c h. level_same s.tables ready (λ i. lends_hands (set_messages (end_waits s.tables (eqb w) (λ j. granted)) q (ms ++ (sent ∷ []))) r m i
               ∙ lends_messages (end_waits s.tables (eqb w) (λ j. granted)) q (ms ++ (sent ∷ [])) i ∙ lends_end s.tables (eqb w) (λ j. granted)
-              (λ j g. ap (lends s.tables) (sym (eqb-true w j g)) ∙ awaits_lends s.tables (room_in q) w (best_waits s.tables I.facts (room_in q) w best) ∙ own) i) refl refl c))
+              (λ j g. ap (lends s.tables) (sym (eqb-true w j g)) ∙ awaits_lends s.tables (room_in q) w (best_waits s.tables I.facts (room_in q) w best) ∙ own) i) refl c))
           off_finish (some o) own k f = enters (settled k) (ap settled f ∙ settle_pack (set os q turn) s (with_tables s ready) F refl (λ i. omega (arith, I.places i)) I.ascending)
 
           sent_off_lem : (y : Queues) → y ≡ pack_queues (set os q turn) s.tables.queues

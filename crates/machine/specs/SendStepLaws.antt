@@ -45,8 +45,7 @@ use Rattle.machine.specs.RowLaws.{Course, ruled, on_row, on_accept, called_some,
 use Rattle.machine.specs.StageLaws.{unchanged_pack}
 use Rattle.machine.specs.FinishLaws.{quiet_pack, settled_finish, one_finish, unchanged_finish}
 use Rattle.machine.specs.WaitStepLaws.{may_wait_lem, time_test, best_named, best_ended, best_below}
-use Rattle.record.specs.OwnLevelLaws.{holds_code}
-use Rattle.machine.specs.LockStepLaws.{links_some}
+use Rattle.machine.specs.LockStepLaws.{holds_code, links_some}
 use Rattle.moves.specs.declared.Move.{Move}  -- keep
 use Rattle.moves.specs.declared.Move.TheVariants.{Hold as HoldWords, Queue as QueueWords}  -- keep
 use Rattle.record.specs.declared.Plan.{Plan}  -- keep
@@ -141,7 +140,7 @@ module _ (os : List ℕ) (s : Model) (I : Inv s) where
         unfolding someb heir_awaited occ
         blocked_finish none e = ap dispatched (blocked_held r run q t m) ∙ unchanged_finish os s I waiting G refl (λ i. places i ∙ I.places i) I.ascending
             (λ i. level_same s.tables waiting.tables
-            (λ j. lends_begin holding r (wait_for (room_in q) t) (omega (arith, caller_in s I r run, I.facts.wait_column)) (caller_idle s I r run) e j ∙ lends_hands s.tables r m j) refl refl i)
+            (λ j. lends_begin holding r (wait_for (room_in q) t) (omega (arith, caller_in s I r run, I.facts.wait_column)) (caller_idle s I r run) e j ∙ lends_hands s.tables r m j) refl i)
         blocked_finish (some o) e = ap (λ z. dispatched (settled z)) (blocked_held r run q t m)
             ∙ settled_finish os s I waiting G refl (λ i. places i ∙ I.places i) I.ascending
 
@@ -199,7 +198,7 @@ module _ (os : List ℕ) (s : Model) (I : Inv s) where
             (called_some s s.running (send_by s q t m) r run ∙ skipped _ _ _ gap ∙ ap (deliver s q m) best) refl
             (ap (λ z. put_queues (pack os s) (used_set (pack os s).queues q z)) grown ∙ ap (put_queues (pack os s)) (used_set_lem s.tables I.facts os q more low)
             ∙ quiet_pack os s I (set_messages s.tables q more) s.clock s.hold (sent_facts s.tables I.facts q low m wide gap best) refl refl
-            (level_same s.tables (set_messages s.tables q more) (lends_messages s.tables q more) refl refl) (λ z. z)))
+            (level_same s.tables (set_messages s.tables q more) (lends_messages s.tables q more) refl) (λ z. z)))
           where
             more : List (List ℕ)
             more = messages_of s.tables q ++ (m ∷ [])
@@ -222,7 +221,7 @@ module _ (os : List ℕ) (s : Model) (I : Inv s) where
           handed_finish = one_finish os s I (with_tables s handed) (ended s.tables (eqb w)) (handed_facts s.tables I.facts q low m wide w best)
               (places_end s handed (eqb w) refl refl I.places) _
               (handed_woke ∙ unchanged_pack os s (with_tables s handed) refl I.ascending (λ k h. level_same s.tables handed (λ i. lends_hands (end_waits s.tables (eqb w) (λ j. granted)) w m i ∙ lends_end s.tables (eqb w) (λ j. granted)
-              (λ j e. ap (lends s.tables) (sym (eqb-true w j e)) ∙ awaits_lends s.tables (message_in q) w (best_waits s.tables I.facts (message_in q) w best)) i) refl refl k))
+              (λ j e. ap (lends s.tables) (sym (eqb-true w j e)) ∙ awaits_lends s.tables (message_in q) w (best_waits s.tables I.facts (message_in q) w best)) i) refl k))
               w (best_ended os s I (message_in q) w best)
 
           send_handed : send_on (pack os s) q t ≡ ruled (going os (HoldWords w)) s x later

@@ -139,7 +139,7 @@ module _ (os : List ℕ) (s : Model) (I : Inv s) where
   unfolding tick_of pack pack_tasks pack_with level_column
   still_finish none-due = aged_pack os s (level_column s.tables) I.facts none-due
       ∙ quiet_pack os s I (age_all s.tables) ((s.clock + 1) % word_size) s.hold (facts_age s.tables none-due I.facts) refl refl
-      (level_same s.tables (age_all s.tables) (lends_age s.tables) refl refl) (λ z. z)
+      (level_same s.tables (age_all s.tables) (lends_age s.tables) refl) (λ z. z)
       ∙ ap (λ t. pack os (dispatch (settle (level_of s) (with_clock (with_tables s (age_all t)) ((s.clock + 1) % word_size)) [])))
       (sym (end_nobody s.tables (due s.tables) (λ i. outcome_due (wait_of s.tables i)) none-due))
       ∙ ap (λ w. pack os (dispatch (settle (level_of s) (with_clock (with_tables s (age_all expired)) ((s.clock + 1) % word_size)) w)))

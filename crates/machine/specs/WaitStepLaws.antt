@@ -92,7 +92,7 @@ module _ (os : List ℕ) (s : Model) (I : Inv s) where
       (facts_begin s.tables r (wait_for a x) (caller_in s I r run) (caller_idle s I r run) un suits left (ring_none s.tables I.facts r a e) I.facts) refl
       (λ i. omega (arith, I.places i, occ_append i s.tables.tasks.waiting (r ∷ []), ap (λ o. occ i (opt o)) run)) I.ascending
       (level_same s.tables (begin_wait s.tables r (wait_for a x))
-      (lends_begin s.tables r (wait_for a x) (omega (arith, caller_in s I r run, I.facts.wait_column)) (caller_idle s I r run) (heir_none s.tables a e)) refl refl)
+      (lends_begin s.tables r (wait_for a x) (omega (arith, caller_in s I r run, I.facts.wait_column)) (caller_idle s I r run) (heir_none s.tables a e)) refl)
 
   pub sleep_pack : (t : ℕ) → sleep_step (pack os s) t ≡ plan_for os Nothing (step_sound s (sleep t))
   unfolding sleep_step pack pack_tasks refusals effect caller_waits awaited_kind awaited_object owner_awaited
@@ -113,7 +113,7 @@ module _ (os : List ℕ) (s : Model) (I : Inv s) where
   unfolding pack pack_tasks pack_mutexes pack_semaphores pack_with level_column
   count_finish k v there nobody low = ap (put_semaphores (pack os s)) (count_set_lem s.tables I.facts k v (leb-false (sem_count s.tables) k there))
       ∙ quiet_pack os s I (set_count s.tables k v) s.clock s.hold (facts_count s.tables k v nobody low I.facts) refl refl
-      (level_same s.tables (set_count s.tables k v) (lends_semaphores s.tables (set_count s.tables k v).semaphores) refl refl) (λ z. z)
+      (level_same s.tables (set_count s.tables k v) (lends_semaphores s.tables (set_count s.tables k v).semaphores) refl) (λ z. z)
 
   module _ (k t r : ℕ) (run : s.running ≡ some r) (there : no_such_sem s k ≡ false) (valid : is_waiting_time t ≡ true) where
     pend_waits : no_credit s k ≡ true → cond (eqb t 0) (answer_in (pack os s) 3 0)
@@ -165,7 +165,7 @@ module _ (os : List ℕ) (s : Model) (I : Inv s) where
       woken_base : woke (pack os s) flags o o ≡ pack os (settle (level_of s) awake [])
       woken_base = woke_pack os s I.facts p named flags fl out o o
           (λ i e. by_test (λ (z : ℕ). z ≡ out i) (eqb (kind_code (wait_of s.tables i)) on_time) (λ q. same i) (λ q. same i))
-          ∙ unchanged_pack os s awake refl I.ascending (λ i h. level_same s.tables (end_waits s.tables p out) (lends_end s.tables p out FreeOf) refl refl i)
+          ∙ unchanged_pack os s awake refl I.ascending (λ i h. level_same s.tables (end_waits s.tables p out) (lends_end s.tables p out FreeOf) refl i)
 
       flushed_finish : dispatched (all_entered (woke (pack os s) flags o o) (task_list_of s.tables.tasks.waiting) flags) ≡ pack os (dispatch (settle (level_of s) awake (ended s.tables p)))
       flushed_finish = all_finish os s I awake (ended s.tables p) ended_facts (places_end s (end_waits s.tables p out) p refl refl I.places)

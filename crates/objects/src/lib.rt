@@ -66,16 +66,15 @@ pub fn add_task(mut t: Tasks, priority: u8) -> Tasks
     t
 }
 
-// One mutex more, with its ceiling or NONE; a full table stays.
-pub fn add_mutex(mut m: Mutexes, kind: u8, ceiling: u8) -> Mutexes
-    ensures { result ≡ mutex_added m kind ceiling }
+// One mutex more; a full table stays.
+pub fn add_mutex(mut m: Mutexes, kind: u8) -> Mutexes
+    ensures { result ≡ mutex_added m kind }
 {
     let i = m.n as usize;
     if MUTEXES <= i {
         return m;
     }
     m.kind[i] = kind;
-    m.ceiling[i] = ceiling;
     m.n += 1;
     m
 }

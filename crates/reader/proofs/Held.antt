@@ -52,7 +52,7 @@ val d = T'.lowered d
 
 module _ (κ : Lft) (d : Reader) where
   abbrev pub Own : Fml
-  Own = (Kind (κ, tt)).own_val d (val d ∷ [])
+  Own = (Kind (κ, tt)).own d (val d ∷ [])
 
   abbrev pub OwnText : Fml
   OwnText = (ShrSlice (named 0) κ u8).own_val d.text (text_val d ∷ [])
@@ -70,7 +70,7 @@ module _ (κ : Lft) (d : Reader) where
     pub twice : ent 𝓤 (sem 𝓛 Own) (sep 𝓤 (sem 𝓛 Own) (sem 𝓛 Own))
     twice = (LL.copy (D (κ, tt)) (T'.the_copy (named_lft 1 0 tt (κ, tt))) 𝓛).twice d (val d ∷ [])
 
-    pub moved : (n : ℕ) → n < 2 ^ 64 → ent 𝓤 (sem 𝓛 Own) (sem 𝓛 ((Kind (κ, tt)).own_val (record { text = d.text; at = n }) (val (record { text = d.text; at = n }) ∷ [])))
+    pub moved : (n : ℕ) → n < 2 ^ 64 → ent 𝓤 (sem 𝓛 Own) (sem 𝓛 ((Kind (κ, tt)).own (record { text = d.text; at = n }) (val (record { text = d.text; at = n }) ∷ [])))
     moved n fits =
         qed 𝓛 (‵ Own ∷ []) ∵
         owned ! usize (Is usize) (uint_Makes 𝓛 w64) n _ (refl, fits) $ move ! (1 ∷ 0 ∷ []) $ by ! (own_put 𝓛 (D (κ, tt)) (L (κ, tt)) 1 parts n (val d))

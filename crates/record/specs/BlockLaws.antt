@@ -38,7 +38,7 @@ unfoldable pub Outside : Whole → Step → ℕ → Type 0
 Outside h (send q t m) i = Off i 1 (spot (ring_at h.state.queues q) (slice_index h.state.queues.used q)) (length m)
 Outside h (receive q t) i = Off i 1 (spot (ring_at h.state.queues q) 0) (slice_index h.state.queues.width q)
 Outside h (task p) i = Unit {0}
-Outside h (mutex k c) i = Unit {0}
+Outside h (mutex k) i = Unit {0}
 Outside h (sem count max) i = Unit {0}
 Outside h start i = Unit {0}
 Outside h (lock m t) i = Unit {0}
@@ -110,7 +110,7 @@ module _ (s : Model) (I : Inv s) (os b : List ℕ) (S : Stands os b s.tables.que
           taken none best = took_outside q m ms none low f r run best off
           taken (some w) best = took_outside q m ms (some w) low f r run best off
   accepted_outside (task p) e off = refl
-  accepted_outside (mutex k c) e off = refl
+  accepted_outside (mutex k) e off = refl
   accepted_outside (sem count max) e off = refl
   accepted_outside start e off = refl
   accepted_outside (lock m t) e off = refl

@@ -14,7 +14,7 @@ use Rattle.record.specs.Whole.{Whole}
 use Rattle.record.specs.declared.State.{State}  -- keep
 use Rattle.record.specs.declared.Held.{Held}  -- keep
 use Rattle.record.specs.declared.Request.{Request}  -- keep
-use Rattle.record.specs.declared.Request.TheVariants.{Task, Mutex, CeilingMutex, Sem, Start, Lock, Unlock, Pend, Post, Flush, Sleep, Yield, Hold, Free, Tick, Level, Outcome, Queue, OwnedQueue, Send, Receive, Word}  -- keep
+use Rattle.record.specs.declared.Request.TheVariants.{Task, Mutex, Sem, Start, Lock, Unlock, Pend, Post, Flush, Sleep, Yield, Hold, Free, Tick, Level, Outcome, Queue, OwnedQueue, Send, Receive, Word}  -- keep
 use Rattle.rules.specs.Answer.{Answer as Ruled}  -- keep
 
 -- "A fresh state is in set-up, with nothing made, clock and hold 0.": its record
@@ -32,8 +32,7 @@ fresh_with block = record { state = fresh_record; words = replicate (held_words 
 -- the request of a step, and the message beside it
 unfoldable pub request_for : Step → Request
 request_for (task p) = Task p
-request_for (mutex k none) = Mutex k
-request_for (mutex k (some c)) = CeilingMutex k c
+request_for (mutex k) = Mutex k
 request_for (sem count max) = Sem count max
 request_for start = Start
 request_for (lock m t) = Lock m t
@@ -56,7 +55,7 @@ request_for (word i n) = Word i n
 
 unfoldable pub message_for : Step → List ℕ
 message_for (task p) = []
-message_for (mutex k c) = []
+message_for (mutex k) = []
 message_for (sem count max) = []
 message_for start = []
 message_for (lock m t) = []

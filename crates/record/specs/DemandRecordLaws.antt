@@ -33,15 +33,14 @@ use Rattle.record.specs.StepStandsLaws.{refused_same, step_stands}
 use Rattle.record.specs.ColumnLaws.{chosen, skipped}
 use Rattle.record.specs.DemandRecord.{fresh_record, fresh_with, request_for, message_for, read_out, in_memory, call_record, events_record, after_record, answer_record, Demand3RecordFrom, Demand3Record}
 use Rattle.record.specs.declared.Request.{Request}  -- keep
-use Rattle.record.specs.declared.Request.TheVariants.{Task, Mutex, CeilingMutex, Sem, Start, Lock, Unlock, Pend, Post, Flush, Sleep, Yield, Hold, Free, Tick, Level, Outcome, Queue, OwnedQueue, Send, Receive, Word}  -- keep
+use Rattle.record.specs.declared.Request.TheVariants.{Task, Mutex, Sem, Start, Lock, Unlock, Pend, Post, Flush, Sleep, Yield, Hold, Free, Tick, Level, Outcome, Queue, OwnedQueue, Send, Receive, Word}  -- keep
 use Rattle.rules.specs.State.{State as Model, fresh}  -- keep
 use Rattle.rules.specs.Answer.{Answer as Ruled, decide, step_sound, standing, stopped, malformed, is_formed, step}  -- keep
 
 pub step_back : (x : Step) → step_for (request_for x) (message_for x) ≡ x
 unfolding step_for request_for message_for
 step_back (task p) = refl
-step_back (mutex k none) = refl
-step_back (mutex k (some c)) = refl
+step_back (mutex k) = refl
 step_back (sem count max) = refl
 step_back start = refl
 step_back (lock m t) = refl
@@ -67,7 +66,6 @@ pub request_back : (x : Request) (m : List ℕ) → request_for (step_for x m) �
 unfolding step_for request_for
 request_back (Task p) m = refl
 request_back (Mutex k) m = refl
-request_back (CeilingMutex k c) m = refl
 request_back (Sem count max) m = refl
 request_back Start m = refl
 request_back (Lock j t) m = refl

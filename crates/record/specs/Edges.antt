@@ -7,13 +7,13 @@ use Rattle.lists.specs.Order.{keep, range, by_id, place, insert_tail, insert_hea
 use Rattle.lists.specs.Table.{edit, pad, filled}
 use Rattle.chains.specs.Chain.{walk, endsb}
 use Rattle.chains.specs.Least.{least, leads_to, least_leading}
-use Rattle.rules.specs.Tables.{awaited_kind, awaited_object, ticks_of, taken_by, withinb}
-use Rattle.rules.specs.Levels.{owner_awaited, heir_awaited, of_wait, next, lends, ceiling_level, under_ceilings, own_level, level_in, chain_of, same_awaited, wait_is_for, waiters_of, best_waiter}
+use Rattle.rules.specs.Tables.{awaited_kind, awaited_object, ticks_of, taken_by}
+use Rattle.rules.specs.Levels.{owner_awaited, heir_awaited, of_wait, next, lends, level_in, chain_of, same_awaited, wait_is_for, waiters_of, best_waiter}
 use Rattle.rules.specs.Step.{task, start}
 use Rattle.rules.specs.Effect.{held_for, caller_waits, lock_by, pass_on, pend_by, credit, flush_of, deliver, send_by, take_in, receive_by, is_due, outcome_due, less_one, age, tick_of, yield_by, called, effect}
 use Rattle.rules.specs.Settle.{settled_ready, meet, dispatch, finish}
 use Rattle.rules.specs.Refusal.{of_caller, links_for, refusals, first_row}
-use Rattle.rules.specs.Sound.{columnsb, sizesb, mutexb, rangesb, is_width, is_depth, messagesb, queueb, queuesb, wordsb, clockb, wait_count, waitingb, placesb, ascendingb, unavailableb, leftb, blockedb, timedb, waitersb, timesb, is_own, pastb, suitsb, suitedb, waits_suitb, existsb, ownersb, owns_rightlyb, ceilingsb, no_ringb, countsb, outcomeb, outcomesb, none_in, runsb, holdb, urgent_top, urgentb, set_upb, tablesb, soundb}
+use Rattle.rules.specs.Sound.{columnsb, sizesb, rangesb, is_width, is_depth, messagesb, queueb, queuesb, wordsb, clockb, wait_count, waitingb, placesb, ascendingb, unavailableb, leftb, blockedb, timedb, waitersb, timesb, is_own, pastb, suitsb, queuedb, queue_waitsb, existsb, ownersb, no_ringb, countsb, outcomeb, outcomesb, none_in, runsb, holdb, urgent_top, urgentb, set_upb, tablesb, soundb}
 use Rattle.rules.specs.Vectors.{Fields}
 use Rattle.task_lists.specs.TaskList.{task_list_of, id_of}
 use Rattle.walks.specs.Walk.{task_at}
@@ -26,7 +26,7 @@ use Rattle.record.specs.SoundRecord.{is_object_wait, used_taskb, unused_taskb, t
 use Rattle.record.specs.StepRecord.{step_for, number_of, value_of, run_of, answer_for, oldest_for, block_sent, block_taken, block_for, after_for, stays, standing_in, step_by, step_of}
 use Rattle.record.specs.DemandRecord.{fresh_record, fresh_with}
 use Rattle.record.specs.declared.Request.{Request}  -- keep
-use Rattle.record.specs.declared.Request.TheVariants.{Task, Mutex, CeilingMutex, Sem, Start, Lock, Unlock, Pend, Post, Flush, Sleep, Yield, Hold, Free, Tick, Level, Outcome, Queue, OwnedQueue, Send, Receive, Word}  -- keep
+use Rattle.record.specs.declared.Request.TheVariants.{Task, Mutex, Sem, Start, Lock, Unlock, Pend, Post, Flush, Sleep, Yield, Hold, Free, Tick, Level, Outcome, Queue, OwnedQueue, Send, Receive, Word}  -- keep
 use Rattle.rules.specs.State.{fresh, with_clock, with_hold}  -- keep
 use Prim.Native.String.{String}  -- keep
 use Rattle.rules.specs.Answer.{decide, step_sound, is_formed}  -- keep
@@ -350,47 +350,6 @@ edge_table =
     gets Tick 0 0 (some 1) ∷
     gets_with (Send 0 5) (7 ∷ []) 12 1 (some 1) ∷
     []) ∷
-    -- document 02, K4, kinds and ceilings: "14 for kind 2 without c or another kind with it, 7 for a kind over 2 or a ceiling over 31"
-    edge "K4 kinds" (fresh_with []) 0 (
-    gets (Mutex 2) 14 0 none ∷
-    gets (Mutex 3) 7 0 none ∷
-    gets (CeilingMutex 1 5) 14 0 none ∷
-    gets (CeilingMutex 3 5) 14 0 none ∷
-    gets (CeilingMutex 2 32) 7 0 none ∷
-    gets (CeilingMutex 2 31) 0 0 none ∷
-    []) ∷
-    -- "Levels .. take the smallest of what 01 says and the ceilings owned", lent on through an inheriting mutex; "Waiters lend nothing through it"; "and 16,
-    -- after 9", also while the mutex is free
-    edge "K4 ceilings" (fresh_with []) 2 (
-    gets (Task 9) 0 0 none ∷
-    gets (Task 5) 0 1 none ∷
-    gets (Task 1) 0 2 none ∷
-    gets (CeilingMutex 2 3) 0 0 none ∷
-    gets (Mutex 1) 0 1 none ∷
-    gets Start 0 0 (some 2) ∷
-    gets (Lock 0 0) 16 0 (some 2) ∷
-    gets (Sleep 9) 1 0 (some 1) ∷
-    gets (Sleep 1) 1 0 (some 0) ∷
-    gets (Lock 1 0) 0 0 (some 0) ∷
-    gets Tick 0 0 (some 1) ∷
-    gets (Lock 0 0) 0 0 (some 1) ∷
-    gets (Lock 0 0) 9 0 (some 1) ∷
-    gets (Level 1) 0 3 (some 1) ∷
-    gets (Lock 1 9) 1 1 (some 0) ∷
-    gets (Level 0) 0 3 (some 0) ∷
-    gets (Lock 0 9) 12 1 (some 0) ∷
-    gets (Unlock 1) 0 0 (some 1) ∷
-    gets (Level 0) 0 9 (some 1) ∷
-    gets (Sleep 1) 1 0 (some 0) ∷
-    gets (Lock 0 9) 1 1 none ∷
-    gets (Level 1) 0 3 none ∷
-    gets Tick 0 0 (some 1) ∷
-    gets (Unlock 0) 0 0 (some 0) ∷
-    gets (Level 0) 0 3 (some 0) ∷
-    gets (Level 1) 0 5 (some 0) ∷
-    gets (Unlock 0) 0 0 (some 1) ∷
-    gets (Level 0) 0 9 (some 1) ∷
-    []) ∷
     []
 
 -- `step` gives each row what is due to it; unfolded is all that it is made of, its test of soundness included
@@ -403,6 +362,6 @@ unfolding edge_table given_in due_in played started_at fresh_record fresh_with s
     same_awaited wait_is_for waiters_of best_waiter fresh ticks_of caller_waits lock_by pass_on pend_by credit flush_of is_due outcome_due less_one age
     tick_of yield_by called effect settled_ready meet dispatch finish of_caller links_for refusals first_row columnsb sizesb rangesb clockb wait_count
     waitingb placesb ascendingb unavailableb leftb blockedb timedb waitersb timesb existsb ownersb no_ringb countsb outcomeb outcomesb none_in runsb
-    holdb urgent_top urgentb set_upb tablesb soundb decide step_sound is_formed is_width is_depth messagesb queueb queuesb wordsb is_own pastb suitsb suitedb waits_suitb owns_rightlyb ceilingsb mutexb withinb ceiling_level under_ceilings own_level
+    holdb urgent_top urgentb set_upb tablesb soundb decide step_sound is_formed is_width is_depth messagesb queueb queuesb wordsb is_own pastb suitsb queuedb queue_waitsb
     taken_by held_for deliver send_by take_in receive_by pack_queues pack_words joined is_object_wait queue_placeb queues_tidyb words_tidyb slot_of start_of
 edges_hold = refl

@@ -14,7 +14,6 @@ pub record Typed (k : State) : Type 0 where
   pub object_length : length k.tasks.object ≡ task_places
   pub timed_length : length k.tasks.timed ≡ task_places
   pub kind_length : length k.mutexes.kind ≡ max_mutexes
-  pub ceiling_length : length k.mutexes.ceiling ≡ max_mutexes
   pub owner_length : length k.mutexes.owner ≡ max_mutexes
   pub count_length : length k.semaphores.count ≡ max_semaphores
   pub maximum_length : length k.semaphores.maximum ≡ max_semaphores

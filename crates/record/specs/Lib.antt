@@ -10,7 +10,6 @@ pub mod Reads
 pub mod GoodRecord
 pub mod ColumnLaws
 pub mod TidyLaws
-pub mod OwnLevelLaws
 pub mod ViewLaws
 pub mod PackLaws
 pub mod ReadLaws

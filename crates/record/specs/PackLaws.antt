@@ -1,7 +1,7 @@
 -- The record and the rules agree: a tidy record is the packing of its view, and a state is the view of its packing.
 use Rattle.std.specs.Prelude.{◌≡◌, ℕ, zero, suc, ◌<◌, ◌≤◌, true, cond, not, ◌⊎◌, List, [], ◌∷◌, map, length, take, ◌==◌, ◌≢◌, nat_eq, slice_index, slice_index_or}
 use Rattle.std.proofs.Math.Path.{refl, sym}
-use Rattle.std.proofs.Common.{ap, ◌∙◌, arith, get_or-take}
+use Rattle.std.proofs.Common.{◌∙◌, arith, get_or-take}
 use Rattle.std.proofs.Math.Logic.{inl, inr}
 use Rattle.std.proofs.Math.Option.{Option, none, some}
 use Rattle.std.proofs.lemmas.List.{length-map}
@@ -21,14 +21,14 @@ use Rattle.task_lists.specs.TaskList.{places, no_id, items, task_list_of, id_of}
 use Rattle.task_lists.specs.TaskListLaws.{list_of_items}
 use Rattle.walks.specs.Walk.{task_at}
 use Rattle.walks.specs.WalkLaws.{task_in}
-use Rattle.record.specs.Record.{awaited_by, ticks_left, due_at, left_in, wait_with, wait_in, wait_at, ceiling_on, view_tables, view, left_code, kind_code, object_code, timed_code, due_code, pack_tasks, pack_mutexes, pack_semaphores, pack_queues, pack, ring_at, oldest_in}
+use Rattle.record.specs.Record.{awaited_by, ticks_left, due_at, left_in, wait_with, wait_in, wait_at, view_tables, view, left_code, kind_code, object_code, timed_code, due_code, pack_tasks, pack_mutexes, pack_semaphores, pack_queues, pack, ring_at, oldest_in}
 use Rattle.record.specs.Whole.{whole}
 use Rattle.rings.specs.Ring.{messages}
 use Rattle.record.specs.SoundRecord.{is_object_wait, used_taskb, idb, mutex_placeb, sem_placeb, task_list_tidyb, tidyb, levelsb}
 use Rattle.record.specs.Setters.{put_tasks, put_level}
 use Rattle.record.specs.GoodRecord.{Typed}
 use Rattle.record.specs.TidyLaws.{tasks_fit, mutexes_fit, semaphores_fit, queues_fit, mutex_place, sem_place, used_queue, unused_queue, used_task, unused_at_lem}
-use Rattle.record.specs.ViewLaws.{ceiling_code, stored_level, view_tasks_lem}
+use Rattle.record.specs.ViewLaws.{stored_level, view_tasks_lem}
 use Rattle.record.specs.declared.State.{State}  -- keep
 use Rattle.record.specs.declared.Tasks.{Tasks}  -- keep
 use Rattle.record.specs.declared.Mutexes.{Mutexes}  -- keep
@@ -113,8 +113,8 @@ pub same_tasks : (a b : Tasks) → a.due ≡ b.due → a.priority ≡ b.priority
     → a.wait ≡ b.wait → a.object ≡ b.object → a.timed ≡ b.timed → a.n ≡ b.n → a ≡ b
 same_tasks a b p1 p2 p3 p4 p5 p6 p7 p8 = λ i. record { due = p1 i; priority = p2 i; level = p3 i; outcome = p4 i; wait = p5 i; object = p6 i; timed = p7 i; n = p8 i }
 
-pub same_mutexes : (a b : Mutexes) → a.kind ≡ b.kind → a.ceiling ≡ b.ceiling → a.owner ≡ b.owner → a.n ≡ b.n → a ≡ b
-same_mutexes a b p c q r = λ i. record { kind = p i; ceiling = c i; owner = q i; n = r i }
+pub same_mutexes : (a b : Mutexes) → a.kind ≡ b.kind → a.owner ≡ b.owner → a.n ≡ b.n → a ≡ b
+same_mutexes a b p q r = λ i. record { kind = p i; owner = q i; n = r i }
 
 pub same_semaphores : (a b : Semaphores) → a.count ≡ b.count → a.maximum ≡ b.maximum → a.n ≡ b.n → a ≡ b
 same_semaphores a b p q r = λ i. record { count = p i; maximum = q i; n = r i }
@@ -167,10 +167,6 @@ module _ (k : State) (ws b : List ℕ) (T : Typed k) (tidy : tidyb k ≡ true) w
       (code_column timed_code k.tasks.timed T.timed_length (λ i h. (codes_at i h).2) (λ i h l. (unused_at_lem k tidy i h l).no_timed))
       (view_tasks_lem k ws b T tidy)
 
-ceilings_back : (l : List ℕ) → map id_of (map ceiling_on l) ≡ l
-ceilings_back [] = refl
-ceilings_back (x ∷ l) = rw (ceiling_code x, ceilings_back l) refl
-
 -- the tables of mutexes
 owners_back : (l : List ℕ) → ((i : ℕ) → i < length l → idb (slice_index_or l i no_id) ≡ true) → map id_of (map task_at l) ≡ l
 owners_back [] h = refl
@@ -184,19 +180,16 @@ module _ (k : State) (ws b : List ℕ) (T : Typed k) (tidy : tidyb k ≡ true) w
   unfolding mutex_placeb
   owner_in_lem i h = rw (← other i (omega (arith, mutexes_fit k tidy))) (rw (lt-ltb i k.mutexes.n h) at (mutex_place k tidy i (omega (arith, mutexes_fit k tidy))))
 
-  mutex_out : (i : ℕ) → k.mutexes.n ≤ i → i < max_mutexes → (slice_index k.mutexes.kind i ≡ 0) × (slice_index_or k.mutexes.ceiling i no_id ≡ no_id) × (slice_index_or k.mutexes.owner i no_id ≡ no_id)
+  mutex_out : (i : ℕ) → k.mutexes.n ≤ i → i < max_mutexes → (slice_index k.mutexes.kind i ≡ 0) × (slice_index_or k.mutexes.owner i no_id ≡ no_id)
   unfolding mutex_placeb
-  mutex_out i h l = let e = rw (le-ltb i k.mutexes.n h) at (mutex_place k tidy i l) in
-      (eqb-true _ _ (and_l _ _ e), sym (read_any k.mutexes.ceiling i 0 no_id (omega (arith, T.ceiling_length))) ∙ eqb-true _ _ (and_l _ _ (and_r _ _ e)), sym (other i l) ∙ eqb-true _ _ (and_r _ _ (and_r _ _ e)))
+  mutex_out i h l = let e = rw (le-ltb i k.mutexes.n h) at (mutex_place k tidy i l) in (eqb-true _ _ (and_l _ _ e), sym (other i l) ∙ eqb-true _ _ (and_r _ _ e))
 
   good_mutexes : pack_mutexes (view_tables (whole k ws b)) ≡ k.mutexes
   unfolding pack_mutexes view_tables
   good_mutexes = same_mutexes _ _
       (pad_take max_mutexes 0 k.mutexes.n k.mutexes.kind (mutexes_fit k tidy) T.kind_length (λ i h l. (mutex_out i h l).0))
-      (ap (pad max_mutexes no_id) (ceilings_back (take k.mutexes.n k.mutexes.ceiling))
-      ∙ pad_take max_mutexes no_id k.mutexes.n k.mutexes.ceiling (mutexes_fit k tidy) T.ceiling_length (λ i h l. (mutex_out i h l).1))
       (rw (owners_back (take k.mutexes.n k.mutexes.owner) (λ i h. let q : i < k.mutexes.n = omega (arith, m) in rw (get_or-take k.mutexes.n k.mutexes.owner i no_id q) (owner_in_lem i q)))
-      (pad_take max_mutexes no_id k.mutexes.n k.mutexes.owner (mutexes_fit k tidy) T.owner_length (λ i h l. (mutex_out i h l).2)))
+      (pad_take max_mutexes no_id k.mutexes.n k.mutexes.owner (mutexes_fit k tidy) T.owner_length (λ i h l. (mutex_out i h l).1)))
       (length-map (take k.mutexes.n k.mutexes.owner) task_at ∙ m)
     where
       m : length (take k.mutexes.n k.mutexes.owner) ≡ k.mutexes.n

@@ -1,40 +1,37 @@
 -- Reading the packed tables: each place holds the code of what the rules' tables hold, and the code's levels are the levels.
-use Rattle.std.specs.Prelude.{◌≡◌, ℕ, ◌<◌, ◌≤◌, min, true, List, [], map, length, get_or, ◌==◌, nat_eq, slice_index, slice_index_or}
+use Rattle.std.specs.Prelude.{◌≡◌, ℕ, ◌≤◌, min, true, List, [], map, length, get_or, ◌==◌, slice_index, slice_index_or}
 use Rattle.std.proofs.Math.Path.{refl, ap, sym, fun_ext}
 use Rattle.std.proofs.Common.{◌∙◌, arith, ext_get_or}
 use Rattle.std.proofs.Math.Logic.{inl, inr}
 use Rattle.std.proofs.Math.Option.{Option, none, some}
 use Rattle.std.proofs.Math.Decide.{dec_lt}
-use Rattle.std.proofs.Math.ListN.{length-map, get_or-eq_default, get_or-map}
+use Rattle.std.proofs.Math.ListN.{get_or-eq_default, get_or-map}
 use Rattle.std.proofs.lemmas.Bool.{not-true}
-use Rattle.lists.specs.Test.{holds}
-use Rattle.lists.specs.Table.{pad, filled}
+use Rattle.lists.specs.Table.{filled}
 use Rattle.lists.specs.TestLaws.{which, by_test, or_none}
-use Rattle.lists.specs.TableLaws.{length_filled, get_d_filled, length_pad, get_d_pad, read_any}
-use Rattle.chains.specs.Least.{least_leading}
+use Rattle.lists.specs.TableLaws.{length_filled, get_d_filled, length_pad, get_d_pad}
+use Rattle.chains.specs.Least.{leads_to, least_leading}
 use Rattle.chains.specs.LeastLaws.{least_start}
 use Rattle.rules.specs.Sizes.{task_places, max_mutexes, max_semaphores, max_queues, inheriting}
 use Rattle.rules.specs.Tables.{awaited_kind, awaited_object, outcome_of, count_of, maximum_of, kind_of, owner_of}
-use Rattle.rules.specs.Levels.{owner_awaited, heir_awaited, of_wait, next, lends, under_ceilings, own_level, level_in}
+use Rattle.rules.specs.Levels.{owner_awaited, heir_awaited, of_wait, next, lends, level_in}
 use Rattle.rules.specs.Invariant.{Facts}
-use Rattle.rules.specs.CeilingLaws.{own_priority_lem}
-use Rattle.rules.specs.LevelLaws.{wait_out, lends_ended, level_own}
+use Rattle.rules.specs.LevelLaws.{wait_out, lends_ended}
 use Rattle.task_lists.specs.TaskList.{no_id, key_of, id_of}
 use Rattle.walks.specs.Walk.{task_at, next_in, raised}
-use Rattle.walks.specs.WalkLaws.{next_in_lem, next_out, leading_own, length_raised, raised_ext, raised_out, length_lent_by, get_d_lent_by}
+use Rattle.walks.specs.WalkLaws.{next_in_lem, next_out, length_raised, raised_ext, raised_out}
 use Rattle.record.specs.Record.{kind_code, object_code, timed_code, due_code, pack_tasks, pack_mutexes, pack_semaphores, pack_queues, pack}
 use Rattle.record.specs.Setters.{put_level}
-use Rattle.record.specs.Reads.{owner_at, kind_at, ceiling_at, queue_owner_at, led_by, leads_at, leads_nowhere_at, next_at, heir_at, lends_at, own_levels, new_levels, count_at, maximum_at}
+use Rattle.record.specs.Reads.{owner_at, kind_at, queue_owner_at, led_by, leads_at, leads_nowhere_at, next_at, heir_at, lends_at, new_levels, count_at, maximum_at}
 use Rattle.record.specs.PackLaws.{level_column, pack_with, task_back}
-use Rattle.record.specs.OwnLevelLaws.{holds_code, own_lent}
 use Rattle.record.specs.ViewLaws.{Leading}
 use Rattle.rules.specs.State.{State as Model}  -- keep
-use Rattle.rules.specs.Tables.{Tables, Wait, Awaited, mutex_of, sem_of, room_in, message_in, time, task_count, priority_of, wait_of, ceiling_of, owner_of, kind_of, width_of, depth_of, queue_owner_of, messages_of}  -- keep
+use Rattle.rules.specs.Tables.{Tables, Wait, Awaited, mutex_of, sem_of, room_in, message_in, time, task_count, priority_of, wait_of, owner_of, kind_of, width_of, depth_of, queue_owner_of, messages_of}  -- keep
 
 -- behind the last task every level is 0
 pub level_out : (t : Tables) (i : ℕ) → task_count t ≤ i → level_in t i ≡ 0
 unfolding level_in least_leading
-level_out t i h = omega (arith, level_own t i, own_priority_lem t i, get_or-eq_default t.tasks.priorities 0 h)
+level_out t i h = omega (arith, least_start (λ j. leads_to (task_count t) (lends t) j i) (priority_of t) (priority_of t i) (task_count t), get_or-eq_default t.tasks.priorities 0 h)
 
 -- the table of levels reads as the levels, at every place
 pub key_level : (t : Tables) (i : ℕ) → key_of (level_column t) i ≡ level_in t i
@@ -87,10 +84,6 @@ module _ (t : Tables) (m : ℕ) where
   unfolding pack_mutexes id_of
   owner_read = get_d_pad max_mutexes no_id (map id_of t.mutexes.owners) m ∙ get_or-map id_of t.mutexes.owners m none
 
-  pub ceiling_read : ceiling_at (pack_mutexes t) m ≡ id_of (ceiling_of t m)
-  unfolding pack_mutexes id_of
-  ceiling_read = get_d_pad max_mutexes no_id (map id_of t.mutexes.ceilings) m ∙ get_or-map id_of t.mutexes.ceilings m none
-
   pub mutex_read : kind_at (pack_mutexes t) m ≡ kind_of t m
   unfolding pack_mutexes
   mutex_read = get_d_pad max_mutexes 0 t.mutexes.kinds m
@@ -132,16 +125,6 @@ module _ (t : Tables) (F : Facts t) (m : ℕ) where
 
   pub queue_owner_back : task_at (id_of (queue_owner_of t m)) ≡ queue_owner_of t m
   queue_owner_back = task_back (queue_owner_of t m) (λ o e. omega (arith, F.owned_queues m o e, F.few_tasks))
-
--- owners and ceilings at the places that there are
-module _ (t : Tables) (F : Facts t) where
-  pub owner_zero : (j : ℕ) → j < max_mutexes → slice_index (pack_mutexes t).owner j ≡ id_of (owner_of t j)
-  unfolding pack_mutexes
-  owner_zero j h = read_any (pad max_mutexes no_id (map id_of t.mutexes.owners)) j 0 no_id (omega (arith, length_pad max_mutexes no_id (map id_of t.mutexes.owners) (omega (arith, F.few_mutexes, length-map t.mutexes.owners id_of)))) ∙ owner_read t j
-
-  pub ceiling_zero : (j : ℕ) → j < max_mutexes → slice_index (pack_mutexes t).ceiling j ≡ id_of (ceiling_of t j)
-  unfolding pack_mutexes
-  ceiling_zero j h = read_any (pad max_mutexes no_id (map id_of t.mutexes.ceilings)) j 0 no_id (omega (arith, length_pad max_mutexes no_id (map id_of t.mutexes.ceilings) (omega (arith, F.few_mutexes, F.ceiling_column, length-map t.mutexes.ceilings id_of)))) ∙ ceiling_read t j
 
 -- who leads to whom, by the packed tables
 module _ (t : Tables) (F : Facts t) where
@@ -195,30 +178,19 @@ module _ (t : Tables) (F : Facts t) where
       (λ j. ap task_at (queue_owner_read t o j) ∙ queue_owner_back t F j) (record { no_sem = λ j. refl; no_message_lem = λ j. refl; no_time = refl })
 
   -- the levels that the code makes are the levels
-  own_read : (clock : ℕ) (lv : List ℕ) (i : ℕ) → i < task_count t → key_of (own_levels (put_level (pack_tasks t clock) lv) (pack_mutexes t)) i ≡ own_level t i
-  unfolding own_levels own_level pack_tasks holds
-  own_read clock lv i h =
-      own_lent (pack_tasks t clock).priority (pack_mutexes t).owner (pack_mutexes t).ceiling t.mutexes.ceilings (owner_of t) i (omega (arith, F.few_tasks))
-      (omega (arith, F.ceiling_column, F.few_mutexes)) (omega (arith, priority_read t clock i, F.priorities i h))
-      (λ j q. ap (λ x. nat_eq x i) (owner_zero t F j (omega (arith, F.ceiling_column, F.few_mutexes))) ∙ holds_code (owner_of t j) i (omega (arith, F.few_tasks)))
-      (λ j q l. ap (λ x. nat_eq x i) (owner_zero t F j l) ∙ holds_code (owner_of t j) i (omega (arith, F.few_tasks))
-      ∙ ap (λ o. holds o i) (get_or-eq_default t.mutexes.owners none (omega (arith, F.ceiling_column))))
-      (λ j q. ceiling_zero t F j (omega (arith, F.ceiling_column, F.few_mutexes)))
-      ∙ ap (under_ceilings t.mutexes.ceilings (owner_of t) i) (priority_read t clock i)
-
   levels_table : (o : List ℕ) (clock : ℕ) (lv : List ℕ) → new_levels (put_level (pack_tasks t clock) lv) (pack_mutexes t) (pack_queues o t.queues) ≡ level_column t
-  unfolding new_levels level_in pack_tasks own_levels
+  unfolding new_levels level_in pack_tasks
   levels_table o clock lv = rw fuel (ext_get_or 0 made (level_column t) sizes (λ i h. elim (dec_lt i n) [
-    | yes q ↦ raised_ext own links n F.few_tasks (lends t) (lends_table o clock lv) i ∙ leading_own n (lends t) (key_of own) (own_level t) (own_read clock lv) i q ∙ sym (key_level t i)
+    | yes q ↦ raised_ext own links n F.few_tasks (lends t) (lends_table o clock lv) i ∙ ap (λ f. least_leading n (lends t) f i) (fun_ext (priority_read t clock)) ∙ sym (key_level t i)
     | no q ↦ raised_out own links n F.few_tasks (λ k m l e. (lends_ended t F).to k m (sym (lends_table o clock lv k) ∙ e)) i (omega arith)
-        ∙ out i (omega arith) ∙ sym (key_level t i ∙ level_out t i (omega arith))
+        ∙ priority_read t clock i ∙ out i (omega arith) ∙ sym (key_level t i ∙ level_out t i (omega arith))
   ]))
     where
       n : ℕ
       n = task_count t
 
       own : List ℕ
-      own = own_levels (put_level (pack_tasks t clock) lv) (pack_mutexes t)
+      own = (pack_tasks t clock).priority
 
       links : List ℕ
       links = filled task_places (lends_at (put_level (pack_tasks t clock) lv) (pack_mutexes t) (pack_queues o t.queues))
@@ -230,20 +202,10 @@ module _ (t : Tables) (F : Facts t) where
       fuel = omega (arith, F.few_tasks)
 
       sizes : length made ≡ length (level_column t)
-      sizes = length_raised own links n n ∙ length_lent_by (pack_tasks t clock).priority (pack_mutexes t).owner (pack_mutexes t).ceiling max_mutexes ∙ length_pad task_places 0 t.tasks.priorities F.few_tasks ∙ sym (length_levels t F.few_tasks)
+      sizes = length_raised own links n n ∙ length_pad task_places 0 t.tasks.priorities F.few_tasks ∙ sym (length_levels t F.few_tasks)
 
-      -- behind the last task nothing is raised, for there is nothing smaller than 0
-      out : (i : ℕ) → n ≤ i → key_of own i ≡ 0
-      out i h = elim (dec_lt i task_places) [
-        | yes l ↦ omega (
-          arith,
-          get_d_lent_by (pack_tasks t clock).priority (pack_mutexes t).owner (pack_mutexes t).ceiling max_mutexes i l,
-          least_start (λ j. nat_eq (slice_index (pack_mutexes t).owner j) i) (λ j. slice_index (pack_mutexes t).ceiling j) (key_of (pack_tasks t clock).priority i) max_mutexes,
-          priority_read t clock i,
-          get_or-eq_default t.tasks.priorities 0 h,
-        )
-        | no l ↦ get_or-eq_default own 0 (omega (arith, length_lent_by (pack_tasks t clock).priority (pack_mutexes t).owner (pack_mutexes t).ceiling max_mutexes, length_pad task_places 0 t.tasks.priorities F.few_tasks))
-      ]
+      out : (i : ℕ) → n ≤ i → priority_of t i ≡ 0
+      out i h = get_or-eq_default t.tasks.priorities 0 h
 
 module _ (s : Model) (F : Facts s.tables) where
   pub next_pack : (o : List ℕ) (i : ℕ) → next_in (filled task_places (next_at (pack o s).tasks (pack o s).mutexes (pack o s).queues)) i ≡ next s.tables i

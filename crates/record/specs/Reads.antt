@@ -4,22 +4,19 @@ use Rattle.lists.specs.Test.{◌or◌}
 use Rattle.lists.specs.Table.{filled}
 use Rattle.rules.specs.Sizes.{task_places, max_mutexes, inheriting, on_mutex, on_send}
 use Rattle.task_lists.specs.TaskList.{no_id}
-use Rattle.walks.specs.Walk.{raised, lent_by}
+use Rattle.walks.specs.Walk.{raised}
 use Rattle.record.specs.declared.Tasks.{Tasks}  -- keep
 use Rattle.record.specs.declared.Mutexes.{Mutexes}  -- keep
 use Rattle.record.specs.declared.Semaphores.{Semaphores}  -- keep
 use Rattle.record.specs.declared.Queues.{Queues}  -- keep
 use Rattle.task_lists.specs.declared.TaskList.{TaskList}  -- keep
 
--- a mutex's owner, kind and ceiling
+-- a mutex's owner and kind
 abbrev pub owner_at : Mutexes → ℕ → ℕ
 owner_at m j = slice_index_or m.owner j no_id
 
 abbrev pub kind_at : Mutexes → ℕ → ℕ
 kind_at m j = slice_index m.kind j
-
-abbrev pub ceiling_at : Mutexes → ℕ → ℕ
-ceiling_at m j = slice_index_or m.ceiling j no_id
 
 -- a semaphore's count and maximum
 abbrev pub count_at : Semaphores → ℕ → ℕ
@@ -62,10 +59,6 @@ heir_at m j = heir_by (kind_at m j) (owner_at m j)
 abbrev pub lends_at : Tasks → Mutexes → Queues → ℕ → ℕ
 lends_at t m x = leads_at t (filled max_mutexes (heir_at m)) x.owner
 
--- the own priorities, each raised to the ceilings of the mutexes that the task owns; no ceiling is a number that raises nobody
-unfoldable pub own_levels : Tasks → Mutexes → List ℕ
-own_levels t m = lent_by t.priority m.owner m.ceiling max_mutexes
-
--- these, raised along the chains of waits on inheriting mutexes and to send; ViewLaws proves them the levels as defined
+-- the own priorities, raised along the chains of waits on inheriting mutexes and to send; ViewLaws proves them the levels as defined
 unfoldable pub new_levels : Tasks → Mutexes → Queues → List ℕ
-new_levels t m x = raised (own_levels t m) (filled task_places (lends_at t m x)) t.n (min t.n task_places)
+new_levels t m x = raised t.priority (filled task_places (lends_at t m x)) t.n (min t.n task_places)

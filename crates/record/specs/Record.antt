@@ -64,16 +64,8 @@ view_tasks k words = record {
   waiting = items k.waiting;
 }
 
--- a ceiling as it stands in the table: the number that is no task's id stands for none too
-abbrev pub ceiling_on : ℕ → Option ℕ
-ceiling_on x = cond (x == no_id) none (some x)
-
 abbrev pub view_mutexes : Mutexes → MutexTable
-view_mutexes m = record {
-  kinds = take m.n m.kind;
-  ceilings = map ceiling_on (take m.n m.ceiling);
-  owners = map task_at (take m.n m.owner);
-}
+view_mutexes m = record { kinds = take m.n m.kind; owners = map task_at (take m.n m.owner) }
 
 abbrev pub view_semaphores : Semaphores → SemTable
 view_semaphores c = record { counts = take c.n c.count; maxima = take c.n c.maximum }
@@ -150,12 +142,7 @@ pack_tasks t clock = record {
 }
 
 unfoldable pub pack_mutexes : Tables → Mutexes
-pack_mutexes t = record {
-  kind = pad max_mutexes 0 t.mutexes.kinds;
-  ceiling = pad max_mutexes no_id (map id_of t.mutexes.ceilings);
-  owner = pad max_mutexes no_id (map id_of t.mutexes.owners);
-  n = mutex_count t;
-}
+pack_mutexes t = record { kind = pad max_mutexes 0 t.mutexes.kinds; owner = pad max_mutexes no_id (map id_of t.mutexes.owners); n = mutex_count t }
 
 unfoldable pub pack_semaphores : Tables → Semaphores
 pack_semaphores t = record { count = pad max_semaphores 0 t.semaphores.counts; maximum = pad max_semaphores 0 t.semaphores.maxima; n = sem_count t }

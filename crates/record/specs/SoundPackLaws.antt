@@ -9,7 +9,7 @@ use Rattle.std.proofs.Math.ListN.{get_or-eq_default, get_or-map, length-map}
 use Rattle.std.proofs.Math.Seq.{length-take-le, get_or-take}
 use Rattle.rings.specs.Ring.{Ring, messages}
 use Rattle.rings.specs.StartsLaws.{start_same}
-use borrow.Author.Tests.{ltb-true, ltb-false, lt-ltb, le-ltb, le-leb, eq-eqb, ne_eqb}
+use borrow.Author.Tests.{ltb-true, ltb-false, lt-ltb, le-ltb, le-leb, eq-eqb}
 use Rattle.lists.specs.Test.{◌and◌, ◌or◌, someb}
 use Rattle.lists.specs.Count.{occ, below, opt}
 use Rattle.lists.specs.Table.{pad, filled}
@@ -22,13 +22,12 @@ use Rattle.rules.specs.Levels.{level_in}
 use Rattle.rules.specs.Step.{hold}
 use Rattle.rules.specs.Sound.{soundb}
 use Rattle.rules.specs.Invariant.{Left, Timed, Facts, Inv}
-use Rattle.rules.specs.CeilingLaws.{ceiling_below}
 use Rattle.rules.specs.LevelLaws.{wait_out}
 use Rattle.rules.specs.SoundLaws.{sound_inv, inv_sound}
 use Rattle.task_lists.specs.TaskList.{places, no_id, task_list_of, id_of}
 use Rattle.task_lists.specs.TaskListLaws.{items_task_list_of, rest_task_list_of}
 use Rattle.walks.specs.Walk.{task_at}
-use Rattle.record.specs.Record.{awaited_by, due_at, left_in, wait_with, wait_in, wait_at, ceiling_on, view_tables, view, left_code, kind_code, object_code, timed_code, due_code, pack_tasks, pack_mutexes, pack_semaphores, pack_queues, pack, pack_words, ring_at, oldest_in}
+use Rattle.record.specs.Record.{awaited_by, due_at, left_in, wait_with, wait_in, wait_at, view_tables, view, left_code, kind_code, object_code, timed_code, due_code, pack_tasks, pack_mutexes, pack_semaphores, pack_queues, pack, pack_words, ring_at, oldest_in}
 use Rattle.record.specs.Whole.{Whole, whole}
 use Rattle.record.specs.Layout.{ring_of, Stands}
 use Rattle.record.specs.SoundRecord.{is_object_wait, used_taskb, unused_taskb, task_placeb, tasks_tidyb, idb, mutex_placeb, mutexes_tidyb, sem_placeb, semaphores_tidyb, queue_placeb, queues_tidyb, words_tidyb, task_list_tidyb, tidyb, levelsb, sound_of}
@@ -37,7 +36,7 @@ use Rattle.record.specs.TidyLaws.{queues_fit, used_queue}
 use Rattle.record.specs.ViewLaws.{view_queues_lem}
 use Rattle.record.specs.WordsPackLaws.{words_back, words_tidy, words_pack}
 use Rattle.record.specs.PackLaws.{ticks_back, task_back, good_queues, good_pack}
-use Rattle.record.specs.ReadLaws.{level_out, kind_read, object_read, timed_read, due_read, priority_read, level_read, outcome_read, owner_zero, ceiling_zero, mutex_read, count_read, maximum_read, queue_owner_read, width_read, depth_read, oldest_read, used_read, level_pack}
+use Rattle.record.specs.ReadLaws.{level_out, kind_read, object_read, timed_read, due_read, priority_read, level_read, outcome_read, owner_read, mutex_read, count_read, maximum_read, queue_owner_read, width_read, depth_read, oldest_read, used_read, level_pack}
 use Rattle.record.specs.declared.Queues.{Queues}  -- keep
 use Rattle.rules.specs.State.{State as Model}  -- keep
 use Rattle.rules.specs.Tables.{Awaited, mutex_of, sem_of, room_in, message_in, time, awaited_kind, awaited_object, Wait, TaskTable, MutexTable, SemTable, QueueTable, Tables, task_count, mutex_count, sem_count, queue_count, wait_of, owner_of, depth_of, queue_owner_of}  -- keep
@@ -83,21 +82,11 @@ owner_list : (l : List (Option ℕ)) → ((m o : ℕ) → slice_index_or l m non
 owner_list [] h = refl
 owner_list (o ∷ l) h = rw (task_back o (h 0), owner_list l (λ m. h (suc m)))
 
--- a ceiling is a level, and so no number that stands for none
-ceiling_back : (q : Option ℕ) → ((c : ℕ) → q ≡ some c → c < no_id) → ceiling_on (id_of q) ≡ q
-unfolding id_of
-ceiling_back none h = refl
-ceiling_back (some c) h = rw (ne_eqb c no_id (λ e. omega (arith, h c refl))) refl
-
-ceiling_list : (l : List (Option ℕ)) → ((m c : ℕ) → slice_index_or l m none ≡ some c → c < no_id) → map ceiling_on (map id_of l) ≡ l
-ceiling_list [] h = refl
-ceiling_list (q ∷ l) h = rw (ceiling_back q (h 0), ceiling_list l (λ m. h (suc m)))
-
 same_task_table : (a b : TaskTable) → a.priorities ≡ b.priorities → a.outcomes ≡ b.outcomes → a.waits ≡ b.waits → a.words ≡ b.words → a.waiting ≡ b.waiting → a ≡ b
 same_task_table a b p q r u s = λ i. record { priorities = p i; outcomes = q i; waits = r i; words = u i; waiting = s i }
 
-same_mutex_table : (a b : MutexTable) → a.kinds ≡ b.kinds → a.ceilings ≡ b.ceilings → a.owners ≡ b.owners → a ≡ b
-same_mutex_table a b p c q = λ i. record { kinds = p i; ceilings = c i; owners = q i }
+same_mutex_table : (a b : MutexTable) → a.kinds ≡ b.kinds → a.owners ≡ b.owners → a ≡ b
+same_mutex_table a b p q = λ i. record { kinds = p i; owners = q i }
 
 same_sem_table : (a b : SemTable) → a.counts ≡ b.counts → a.maxima ≡ b.maxima → a ≡ b
 same_sem_table a b p q = λ i. record { counts = p i; maxima = q i }
@@ -145,8 +134,6 @@ module _ (s : Model) (o b : List ℕ) (F : Facts s.tables) (word : s.clock < wor
       (items_task_list_of s.tables.tasks.waiting))
       (same_mutex_table _ _
       (take_pad max_mutexes 0 (mutex_count s.tables) s.tables.mutexes.kinds F.kind_column)
-      (ap (map ceiling_on) (take_pad max_mutexes no_id (mutex_count s.tables) (map id_of s.tables.mutexes.ceilings) (length-map s.tables.mutexes.ceilings id_of ∙ F.ceiling_column))
-      ∙ ceiling_list s.tables.mutexes.ceilings (λ m c e. omega (arith, ceiling_below s.tables F m c e)))
       (ap (map task_at) (take_pad max_mutexes no_id (mutex_count s.tables) (map id_of s.tables.mutexes.owners) (length-map s.tables.mutexes.owners id_of))
       ∙ owner_list s.tables.mutexes.owners (λ m o e. omega (arith, F.owners m o e, F.few_tasks))))
       (same_sem_table _ _
@@ -244,6 +231,10 @@ module _ (t : Tables) (F : Facts t) (clock : ℕ) where
     | no q ↦ rw (le-ltb i (task_count t) (omega arith)) (unused_tidy i (omega arith))
   ]))
 
+  owner_zero : (j : ℕ) → j < max_mutexes → slice_index (pack_mutexes t).owner j ≡ id_of (owner_of t j)
+  unfolding pack_mutexes
+  owner_zero j h = read_any (pad max_mutexes no_id (map id_of t.mutexes.owners)) j 0 no_id (omega (arith, length_pad max_mutexes no_id (map id_of t.mutexes.owners) (omega (arith, F.few_mutexes, length-map t.mutexes.owners id_of)))) ∙ owner_read t j
+
   mutexes_n : (pack_mutexes t).n ≡ mutex_count t
   unfolding pack_mutexes
   mutexes_n = refl
@@ -251,16 +242,14 @@ module _ (t : Tables) (F : Facts t) (clock : ℕ) where
   mutexes_tidy : mutexes_tidyb (pack_mutexes t) ≡ true
   unfolding mutexes_tidyb mutex_placeb id_of
   mutexes_tidy = true_and _ _ (le-leb (pack_mutexes t).n max_mutexes (omega (arith, F.few_mutexes, mutexes_n))) (true_all max_mutexes _ (λ j h. by_test (λ (b : Bool). b ≡ true) (nat_lt j (pack_mutexes t).n)
-      (λ q. rw (owner_zero t F j h) (true_id (owner_of t j) (λ o e. omega (arith, F.owners j o e, F.few_tasks))))
+      (λ q. rw (owner_zero j h) (true_id (owner_of t j) (λ o e. omega (arith, F.owners j o e, F.few_tasks))))
       (λ q. unused j h (ltb-false j _ q))))
     where
-      unused : (j : ℕ) → j < max_mutexes → (pack_mutexes t).n ≤ j → nat_eq (slice_index (pack_mutexes t).kind j) 0 and nat_eq (slice_index (pack_mutexes t).ceiling j) no_id and nat_eq (slice_index (pack_mutexes t).owner j) no_id ≡ true
+      unused : (j : ℕ) → j < max_mutexes → (pack_mutexes t).n ≤ j → nat_eq (slice_index (pack_mutexes t).kind j) 0 and nat_eq (slice_index (pack_mutexes t).owner j) no_id ≡ true
       unused j h q =
           let b : length t.mutexes.kinds ≤ j = omega (arith, F.kind_column, mutexes_n) in
           let c : length t.mutexes.owners ≤ j = omega (arith, mutexes_n) in
-          let d : length t.mutexes.ceilings ≤ j = omega (arith, F.ceiling_column, mutexes_n) in
-          true_and _ _ (eq-eqb _ _ (mutex_read t j ∙ get_or-eq_default t.mutexes.kinds 0 b))
-          (true_and _ _ (eq-eqb _ _ (ceiling_zero t F j h ∙ ap id_of (get_or-eq_default t.mutexes.ceilings none d))) (eq-eqb _ _ (owner_zero t F j h ∙ ap id_of (get_or-eq_default t.mutexes.owners none c))))
+          true_and _ _ (eq-eqb _ _ (mutex_read t j ∙ get_or-eq_default t.mutexes.kinds 0 b)) (eq-eqb _ _ (owner_zero j h ∙ ap id_of (get_or-eq_default t.mutexes.owners none c)))
 
   semaphores_n : (pack_semaphores t).n ≡ sem_count t
   unfolding pack_semaphores
@@ -373,7 +362,6 @@ module _ (s : Model) (I : Inv s) where
         object_length = wait_codes object_code;
         timed_length = wait_codes timed_code;
         kind_length = length_pad max_mutexes 0 t.mutexes.kinds (omega (arith, I.facts.kind_column, I.facts.few_mutexes));
-        ceiling_length = length_pad max_mutexes no_id (map id_of t.mutexes.ceilings) (omega (arith, length-map t.mutexes.ceilings id_of, I.facts.ceiling_column, I.facts.few_mutexes));
         owner_length = length_pad max_mutexes no_id (map id_of t.mutexes.owners) (omega (arith, length-map t.mutexes.owners id_of, I.facts.few_mutexes));
         count_length = length_pad max_semaphores 0 t.semaphores.counts I.facts.few_semaphores;
         maximum_length = length_pad max_semaphores 0 t.semaphores.maxima (omega (arith, I.facts.maximum_column, I.facts.few_semaphores));

@@ -42,7 +42,7 @@ abbrev pub idb : ℕ → Bool
 idb x = ltb x task_places or nat_eq x no_id
 
 unfoldable pub mutex_placeb : Mutexes → ℕ → Bool
-mutex_placeb m j = cond (nat_lt j m.n) (idb (slice_index m.owner j)) (nat_eq (slice_index m.kind j) 0 and nat_eq (slice_index m.ceiling j) no_id and nat_eq (slice_index m.owner j) no_id)
+mutex_placeb m j = cond (nat_lt j m.n) (idb (slice_index m.owner j)) (nat_eq (slice_index m.kind j) 0 and nat_eq (slice_index m.owner j) no_id)
 
 unfoldable pub mutexes_tidyb : Mutexes → Bool
 mutexes_tidyb m = leb m.n max_mutexes and allb max_mutexes (mutex_placeb m)

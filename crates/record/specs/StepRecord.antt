@@ -18,14 +18,13 @@ use Rattle.record.specs.declared.Answer.{Answer}  -- keep
 use Rattle.record.specs.declared.Out.{Out}  -- keep
 use Rattle.record.specs.declared.Answer.TheVariants.{Accepted, Refused}  -- keep
 use Rattle.record.specs.declared.Request.{Request}  -- keep
-use Rattle.record.specs.declared.Request.TheVariants.{Task, Mutex, CeilingMutex, Sem, Start, Lock, Unlock, Pend, Post, Flush, Sleep, Yield, Hold, Free, Tick, Level, Outcome, Queue, OwnedQueue, Send, Receive, Word}  -- keep
+use Rattle.record.specs.declared.Request.TheVariants.{Task, Mutex, Sem, Start, Lock, Unlock, Pend, Post, Flush, Sleep, Yield, Hold, Free, Tick, Level, Outcome, Queue, OwnedQueue, Send, Receive, Word}  -- keep
 use Rattle.rules.specs.Answer.{Answer as Ruled, is_formed, step_sound}  -- keep
 
 -- the step that a request stands for, with the message beside it
 unfoldable pub step_for : Request → List ℕ → Step
 step_for (Task p) m = task p
-step_for (Mutex k) m = mutex k none
-step_for (CeilingMutex k c) m = mutex k (some c)
+step_for (Mutex k) m = mutex k
 step_for (Sem count max) m = sem count max
 step_for Start m = start
 step_for (Lock j t) m = lock j t
@@ -69,7 +68,7 @@ answer_for k v r = answer_of k v (id_of r)
 -- where the oldest messages stand after a step: a receive that took one has moved on by one place; those of a new queue begin at its first
 unfoldable pub oldest_for : Queues → Step → ℕ → List ℕ
 oldest_for x (task p) number = oldest_in x
-oldest_for x (mutex k c) number = oldest_in x
+oldest_for x (mutex k) number = oldest_in x
 oldest_for x (sem count max) number = oldest_in x
 oldest_for x start number = oldest_in x
 oldest_for x (lock m t) number = oldest_in x
@@ -102,7 +101,7 @@ block_taken h q (some w) = laid h.block (spot (ring_at h.state.queues q) 0) (sen
 -- the block after a step: document 02, K1: "In the block, nothing outside the queue's own words changes."
 unfoldable pub block_for : Whole → Step → ℕ → List ℕ
 block_for h (task p) number = h.block
-block_for h (mutex k c) number = h.block
+block_for h (mutex k) number = h.block
 block_for h (sem count max) number = h.block
 block_for h start number = h.block
 block_for h (lock m t) number = h.block
@@ -149,7 +148,7 @@ standing_by sound k = cond sound (task_at k.running) none
 unfoldable pub standing_in : Whole → Option ℕ
 standing_in h = standing_by (sound_of h) h.state
 
--- 14 for a send with no word or over 8, or a mutex whose kind and ceiling don't belong together; 15 with no task to run where the record isn't sound; else what the rules answer
+-- 14 for a send with no word or over 8; 15 with no task to run where the record isn't sound; else what the rules answer
 unfoldable pub step_by : Whole → Step → After
 step_by h x = cond (is_formed x) (cond (sound_of h) (after_for h x (step_sound (view h) x)) (stays h 15 0 none)) (stays h 14 0 (standing_in h))
 

@@ -82,7 +82,7 @@ module _ (s : Model) (I : Inv s) (os b : List ℕ) (S : Stands os b s.tables.que
   accepted_stands : (y : Step) → first_row (refusals s y) ≡ none → After y (effect s y)
   unfolding effect refusals oldest_for block_for caller_waits lock_by pass_on pend_by credit flush_of deliver send_by take_in receive_by tick_of yield_by
   accepted_stands (task p) e = kept _ refl
-  accepted_stands (mutex k c) e = kept _ refl
+  accepted_stands (mutex k) e = kept _ refl
   accepted_stands (sem count max) e = kept _ refl
   accepted_stands start e = kept _ refl
   accepted_stands (lock m t) e = caller_by (After (lock m t)) s s.running _ (kept _ refl) (λ r. go r (owner_of s.tables m))
@@ -141,7 +141,7 @@ module _ (s : Model) (I : Inv s) (os b : List ℕ) (S : Stands os b s.tables.que
   pub refused_same : (y : Step) (n : ℕ) → (n == 0) ≡ false → (oldest_for (pack_queues os x) y n ≡ os) × (block_for h y n ≡ b)
   unfolding oldest_for block_for
   refused_same (task p) n e = (oldest_back, refl)
-  refused_same (mutex k c) n e = (oldest_back, refl)
+  refused_same (mutex k) n e = (oldest_back, refl)
   refused_same (sem count max) n e = (oldest_back, refl)
   refused_same start n e = (oldest_back, refl)
   refused_same (lock m t) n e = (oldest_back, refl)

@@ -1,5 +1,5 @@
 -- What the view of a record holds at each place, where unused places are as in the fresh state.
-use Rattle.std.specs.Prelude.{◌≡◌, ℕ, ◌<◌, ◌≤◌, min, Bool, true, false, cond, ◌⊎◌, List, [], length, get_or, take, ◌==◌, nat_eq, slice_index, slice_index_or}
+use Rattle.std.specs.Prelude.{◌≡◌, ℕ, ◌<◌, ◌≤◌, min, Bool, true, false, cond, ◌⊎◌, List, [], length, get_or, take, ◌==◌, slice_index, slice_index_or}
 use Rattle.std.proofs.Math.Path.{refl, ap, sym}
 use Rattle.std.proofs.Common.{◌∙◌, arith}
 use Rattle.std.proofs.Math.Logic.{inl, inr}
@@ -9,24 +9,22 @@ use Rattle.std.proofs.Math.ListN.{get_or-eq_default, get_or-map, length-map, len
 use Rattle.std.proofs.Math.Seq.{length-take-le, get_or-take}
 use borrow.Author.Tests.{ltb-true, eqb-true, lt-ltb, le-ltb, ne_eqb}
 use Rattle.lists.specs.Table.{filled}
-use Rattle.lists.specs.Test.{holds}
-use Rattle.lists.specs.TestLaws.{which, by_test, and_r, or_true, all_true}
+use Rattle.lists.specs.TestLaws.{which, and_r, or_true, all_true}
 use Rattle.lists.specs.TableLaws.{length_filled, get_d_filled, read_any}
 use Rattle.chains.specs.Least.{least_leading}
 use Rattle.rules.specs.Sizes.{task_places, max_mutexes, max_queues, inheriting, on_mutex, on_semaphore, on_time, on_send, on_receive}
-use Rattle.rules.specs.Tables.{Awaited, mutex_of, sem_of, room_in, message_in, time, task_count, mutex_count, sem_count, queue_count, priority_of, outcome_of, wait_of, words_of, kind_of, ceiling_of, owner_of, count_of, maximum_of, width_of, depth_of, queue_owner_of, messages_of}
-use Rattle.rules.specs.Levels.{owner_awaited, heir_awaited, of_wait, next, lends, under_ceilings, own_level, level_in}
-use Rattle.task_lists.specs.TaskList.{no_id, key_of, id_of}
+use Rattle.rules.specs.Tables.{Awaited, mutex_of, sem_of, room_in, message_in, time, task_count, mutex_count, sem_count, queue_count, priority_of, outcome_of, wait_of, words_of, kind_of, owner_of, count_of, maximum_of, width_of, depth_of, queue_owner_of, messages_of}
+use Rattle.rules.specs.Levels.{owner_awaited, heir_awaited, of_wait, next, lends, level_in}
+use Rattle.task_lists.specs.TaskList.{no_id, key_of}
 use Rattle.walks.specs.Walk.{task_at, next_in, raised}
-use Rattle.walks.specs.WalkLaws.{holds_task, next_in_lem, next_out, next_agrees, leading_own, raised_ext}
-use Rattle.record.specs.Record.{awaited_by, wait_with, wait_in, wait_at, ceiling_on, ring_at, view_tables}
+use Rattle.walks.specs.WalkLaws.{next_in_lem, next_out, next_agrees, leading_own, raised_ext}
+use Rattle.record.specs.Record.{awaited_by, wait_with, wait_in, wait_at, ring_at, view_tables}
 use Rattle.record.specs.Whole.{whole}
 use Rattle.rings.specs.Ring.{messages}
 use Rattle.rings.specs.Held.{held_by}
 use Rattle.record.specs.SoundRecord.{mutex_placeb, tidyb, levelsb}
-use Rattle.record.specs.Reads.{owner_at, kind_at, ceiling_at, queue_owner_at, led_by, leads_at, next_at, heir_at, lends_at, own_levels, new_levels, count_at, maximum_at}
+use Rattle.record.specs.Reads.{owner_at, kind_at, queue_owner_at, led_by, leads_at, next_at, heir_at, lends_at, new_levels, count_at, maximum_at}
 use Rattle.record.specs.GoodRecord.{Typed}
-use Rattle.record.specs.OwnLevelLaws.{own_lent}
 use Rattle.record.specs.TidyLaws.{tasks_fit, mutexes_fit, semaphores_fit, queues_fit, mutex_place, unused_queue, unused_at_lem}
 use Rattle.record.specs.declared.State.{State}  -- keep
 
@@ -91,11 +89,6 @@ map_same f g n fit same out none_out = next_agrees (filled task_places f) g n
     in_table : (i : ℕ) → i < task_places → next_in (filled task_places f) i ≡ task_at (f i)
     in_table i l = next_in_lem (filled task_places f) i l ∙ ap task_at (get_d_filled task_places f 0 i l)
 
--- a ceiling's number is that of what it stands for
-pub ceiling_code : (x : ℕ) → id_of (ceiling_on x) ≡ x
-unfolding id_of
-ceiling_code x = by_test (λ (o : Option ℕ). id_of o ≡ x) (x == no_id) (λ e. sym (eqb-true x no_id e)) (λ e. refl)
-
 -- what the view's columns read
 module _ (k : State) (ws b : List ℕ) (T : Typed k) (tidy : tidyb k ≡ true) where
   -- behind the last task nobody waits
@@ -115,7 +108,7 @@ module _ (k : State) (ws b : List ℕ) (T : Typed k) (tidy : tidyb k ≡ true) w
             | inl u ↦ inl (omega (arith, ltb-true (slice_index k.mutexes.owner j) task_places u))
             | inr u ↦ inr (omega (arith, eqb-true (slice_index k.mutexes.owner j) no_id u))
           ]
-          | no h ↦ inr (omega (arith, eqb-true (slice_index k.mutexes.owner j) no_id (and_r _ _ (and_r _ _ (rw (le-ltb j k.mutexes.n (omega arith)) at (mutex_place k tidy j l))))))
+          | no h ↦ inr (omega (arith, eqb-true (slice_index k.mutexes.owner j) no_id (and_r _ _ (rw (le-ltb j k.mutexes.n (omega arith)) at (mutex_place k tidy j l)))))
         ])
     | no l ↦ inr (get_or-eq_default k.mutexes.owner no_id (omega (arith, T.owner_length)))
   ]
@@ -124,7 +117,7 @@ module _ (k : State) (ws b : List ℕ) (T : Typed k) (tidy : tidyb k ≡ true) w
   unfolding mutex_placeb
   unused_owner j h = elim (dec_lt j max_mutexes) [
     | yes l ↦ sym (read_any k.mutexes.owner j 0 no_id (omega (arith, T.owner_length)))
-        ∙ eqb-true _ _ (and_r _ _ (and_r _ _ (rw (le-ltb j k.mutexes.n h) at (mutex_place k tidy j l))))
+        ∙ eqb-true _ _ (and_r _ _ (rw (le-ltb j k.mutexes.n h) at (mutex_place k tidy j l)))
     | no l ↦ get_or-eq_default k.mutexes.owner no_id (omega (arith, T.owner_length))
   ]
 
@@ -148,11 +141,6 @@ module _ (k : State) (ws b : List ℕ) (T : Typed k) (tidy : tidyb k ≡ true) w
   pub view_kinds : length (view_tables (whole k ws b)).mutexes.kinds ≡ k.mutexes.n
   unfolding view_tables
   view_kinds = length-take-le k.mutexes.n k.mutexes.kind (omega (arith, T.kind_length, mutexes_fit k tidy))
-
-  pub view_ceilings : length (view_tables (whole k ws b)).mutexes.ceilings ≡ k.mutexes.n
-  unfolding view_tables
-  view_ceilings = length-map (take k.mutexes.n k.mutexes.ceiling) ceiling_on
-      ∙ length-take-le k.mutexes.n k.mutexes.ceiling (omega (arith, T.ceiling_length, mutexes_fit k tidy))
 
   pub view_semaphores_lem : sem_count (view_tables (whole k ws b)) ≡ k.semaphores.n
   unfolding view_tables
@@ -180,14 +168,6 @@ module _ (k : State) (ws b : List ℕ) (T : Typed k) (tidy : tidyb k ≡ true) w
   pub view_kind : (j : ℕ) → j < k.mutexes.n → kind_of (view_tables (whole k ws b)) j ≡ kind_at k.mutexes j
   unfolding view_tables
   view_kind j h = get_or-take k.mutexes.n k.mutexes.kind j 0 h
-
-  -- the number of a ceiling, and what it stands for
-  pub view_ceiling_on : (j : ℕ) → j < k.mutexes.n → ceiling_of (view_tables (whole k ws b)) j ≡ ceiling_on (ceiling_at k.mutexes j)
-  unfolding view_tables
-  view_ceiling_on j h = get_or-map ceiling_on (take k.mutexes.n k.mutexes.ceiling) j no_id ∙ ap ceiling_on (get_or-take k.mutexes.n k.mutexes.ceiling j no_id h)
-
-  pub view_ceiling : (j : ℕ) → j < k.mutexes.n → ceiling_at k.mutexes j ≡ id_of (ceiling_of (view_tables (whole k ws b)) j)
-  view_ceiling j h = sym (ap id_of (view_ceiling_on j h) ∙ ceiling_code (ceiling_at k.mutexes j))
 
   pub view_owner : (j : ℕ) → owner_of (view_tables (whole k ws b)) j ≡ task_at (owner_at k.mutexes j)
   unfolding view_tables
@@ -315,28 +295,14 @@ module _ (k : State) (ws b : List ℕ) (T : Typed k) (tidy : tidyb k ≡ true) w
   unfolding lends of_wait
   lends_same = map_same (lends_at k.tasks k.mutexes k.queues) (lends (view_tables (whole k ws b))) k.tasks.n (tasks_fit k tidy) lends_at_lem (leads_out (filled max_mutexes (heir_at k.mutexes)) k.queues.owner) (λ i h. rw (view_wait_out i h) refl)
 
-  -- the levels of tasks by themselves that the code works out are those of the rules, where priorities are bytes
-  pub own_view : (i : ℕ) → i < k.tasks.n → key_of k.tasks.priority i ≤ no_id → key_of (own_levels k.tasks k.mutexes) i ≡ own_level (view_tables (whole k ws b)) i
-  unfolding own_levels own_level
-  own_view i h byte =
-      own_lent k.tasks.priority k.mutexes.owner k.mutexes.ceiling (view_tables (whole k ws b)).mutexes.ceilings (owner_of (view_tables (whole k ws b))) i (omega (arith, tasks_fit k tidy))
-      (omega (arith, view_ceilings, mutexes_fit k tidy)) byte
-      (λ j q. (let l : j < max_mutexes = omega (arith, view_ceilings, mutexes_fit k tidy) in ap (λ x. nat_eq x i) (read_any k.mutexes.owner j 0 no_id (omega (arith, T.owner_length)))
-      ∙ sym (ap (λ o. holds o i) (view_owner j) ∙ holds_task (owner_at k.mutexes j) i (omega (arith, tasks_fit k tidy)))))
-      (λ j q l. ap (λ x. nat_eq x i) (read_any k.mutexes.owner j 0 no_id (omega (arith, T.owner_length)) ∙ unused_owner j (omega (arith, view_ceilings)))
-      ∙ ne_eqb no_id i (λ e. omega (arith, tasks_fit k tidy)))
-      (λ j q. (let l : j < max_mutexes = omega (arith, view_ceilings, mutexes_fit k tidy) in read_any k.mutexes.ceiling j 0 no_id (omega (arith, T.ceiling_length)) ∙ view_ceiling j (omega (arith, view_ceilings))))
-      ∙ ap (under_ceilings (view_tables (whole k ws b)).mutexes.ceilings (owner_of (view_tables (whole k ws b))) i) (sym (view_priority i h))
-
   -- the levels that the code works out are those of the rules
-  pub new_level : ((i : ℕ) → i < k.tasks.n → key_of k.tasks.priority i ≤ no_id) → (i : ℕ) → i < k.tasks.n
-      → slice_index (new_levels k.tasks k.mutexes k.queues) i ≡ level_in (view_tables (whole k ws b)) i
+  pub new_level : (i : ℕ) → i < k.tasks.n → slice_index (new_levels k.tasks k.mutexes k.queues) i ≡ level_in (view_tables (whole k ws b)) i
   unfolding new_levels level_in
-  new_level bytes i h =
-      ap (λ (m : ℕ). slice_index (raised (own_levels k.tasks k.mutexes) (filled task_places (lends_at k.tasks k.mutexes k.queues)) k.tasks.n m) i) all
-      ∙ raised_ext (own_levels k.tasks k.mutexes) (filled task_places (lends_at k.tasks k.mutexes k.queues)) k.tasks.n (tasks_fit k tidy) (lends (view_tables (whole k ws b))) lends_same i
-      ∙ leading_own k.tasks.n (lends (view_tables (whole k ws b))) (key_of (own_levels k.tasks k.mutexes)) (own_level (view_tables (whole k ws b))) (λ j q. own_view j q (bytes j q)) i h
-      ∙ ap (λ (m : ℕ). least_leading m (lends (view_tables (whole k ws b))) (own_level (view_tables (whole k ws b))) i) (sym view_tasks_lem)
+  new_level i h =
+      ap (λ (m : ℕ). slice_index (raised k.tasks.priority (filled task_places (lends_at k.tasks k.mutexes k.queues)) k.tasks.n m) i) all
+      ∙ raised_ext k.tasks.priority (filled task_places (lends_at k.tasks k.mutexes k.queues)) k.tasks.n (tasks_fit k tidy) (lends (view_tables (whole k ws b))) lends_same i
+      ∙ leading_own k.tasks.n (lends (view_tables (whole k ws b))) (key_of k.tasks.priority) (priority_of (view_tables (whole k ws b))) (λ j q. sym (view_priority j q)) i h
+      ∙ ap (λ (m : ℕ). least_leading m (lends (view_tables (whole k ws b))) (priority_of (view_tables (whole k ws b))) i) (sym view_tasks_lem)
     where
       all : min k.tasks.n task_places ≡ k.tasks.n
       all = omega (arith, tasks_fit k tidy)

@@ -41,7 +41,6 @@ pub fn fresh() -> State
     };
     let mutexes = Mutexes {
         kind: [0u8; MUTEXES],
-        ceiling: [NONE; MUTEXES],
         owner: [NONE; MUTEXES],
         n: 0,
     };

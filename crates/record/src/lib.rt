@@ -37,17 +37,15 @@ pub const MAX_DEPTH: u32 = 64;
 // How many priorities and levels there are.
 pub const LEVELS: u8 = task_lists::LEVELS;
 
-// How many kinds of mutexes there are, the kind that lends its waiters' levels to the owner, and the kind that lifts its owner to a ceiling.
-pub const KINDS: u8 = 3;
+// How many kinds of mutexes there are, and the kind that lends its waiters' levels to the owner.
+pub const KINDS: u8 = 2;
 
 pub const INHERITING: u8 = 1;
-
-pub const CEILING: u8 = 2;
 
 // The greatest hold depth.
 pub const MAX_HOLD: u8 = 255;
 
-// Stands for no task, and for no ceiling.
+// Stands for no task.
 pub const NONE: u8 = task_lists::NONE;
 
 // What a task waits for: nothing, a mutex, a semaphore, time, room in a queue, a message in it.
@@ -91,12 +89,10 @@ pub struct Tasks {
     pub n: u8,
 }
 
-// The mutexes. `ceiling` is NONE where the kind has none.
 #[repr(C)]
 #[derive(Drop)]
 pub struct Mutexes {
     pub kind: [u8; MUTEXES],
-    pub ceiling: [u8; MUTEXES],
     pub owner: [u8; MUTEXES],
     pub n: u8,
 }
@@ -150,7 +146,6 @@ pub struct Held {
 pub enum Request {
     Task { priority: u32 },
     Mutex { kind: u32 },
-    CeilingMutex { kind: u32, ceiling: u32 },
     Sem { count: u32, maximum: u32 },
     Start,
     Lock { mutex: u32, time: u32 },

@@ -1,7 +1,7 @@
 // What stands at a place of the record: for a number that is no place, what an unused one holds.
 ghost use Rattle.std.specs.Prelude.{◌≡◌};
 ghost use Rattle.record.specs.Record.{ticks_left};
-ghost use Rattle.record.specs.Reads.{owner_at, ceiling_at, count_at, maximum_at};
+ghost use Rattle.record.specs.Reads.{owner_at, count_at, maximum_at};
 
 use crate::{MUTEXES, Mutexes, NONE, SEMAPHORES, Semaphores};
 
@@ -21,17 +21,6 @@ pub fn owner_at(m: Mutexes, j: u8) -> u8
         return NONE;
     }
     m.owner[i]
-}
-
-// A mutex's ceiling; NONE for one that has none, and for a number that no mutex has.
-pub fn ceiling_at(m: Mutexes, j: u8) -> u8
-    ensures { result ≡ ceiling_at m j }
-{
-    let i = j as usize;
-    if MUTEXES <= i {
-        return NONE;
-    }
-    m.ceiling[i]
 }
 
 pub fn count_at(c: Semaphores, j: u8) -> u32

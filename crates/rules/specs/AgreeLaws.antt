@@ -1,5 +1,5 @@
 -- What is told is what the state holds: the history agrees with the rules' state after every call.
-use Rattle.std.specs.Prelude.{◌≡◌, Bool, true, false, ℕ, ◌+◌, ◌-◌, ◌<◌, leb, eqb}
+use Rattle.std.specs.Prelude.{◌≡◌, Bool, true, false, ℕ, ◌+◌, ◌-◌, ◌<◌, leb, eqb, length}
 use Rattle.std.proofs.Math.Path.{refl, ap, sym, fun_ext}
 use Rattle.std.proofs.Common.{◌∙◌, arith, get_or-set_same, get_or-set_other}
 use mathlib.Core.List.{List, [], ◌∷◌, ◌++◌}
@@ -7,7 +7,7 @@ use Rattle.std.proofs.Math.Bool.{cond, not}
 use Rattle.std.proofs.Math.Option.{Option, none, some}
 use Rattle.std.proofs.Math.Decide.{ℕ_discrete}
 use Rattle.std.proofs.Math.Dec.{ltb}
-use Rattle.std.proofs.Math.ListN.{length, get_or, get_or-map}
+use Rattle.std.proofs.Math.ListN.{get_or, get_or-map}
 use borrow.Author.Tests.{leb-false, eqb-true, not-false, lt-leb, eq-eqb, ne_eqb}
 use Rattle.lists.specs.Test.{◌and◌, holds}
 use Rattle.lists.specs.Order.{keep, least_first}
@@ -16,8 +16,8 @@ use Rattle.lists.specs.TestLaws.{clash, by_test, none_some, same_test}
 use Rattle.lists.specs.TableLaws.{snoc_default}
 use Rattle.chains.specs.Least.{least_leading}
 use Rattle.rules.specs.Sizes.{inheriting, granted, flushed}
-use Rattle.rules.specs.Tables.{Awaited, mutex_of, sem_of, room_in, message_in, time, Wait, wait_for, SemTable, Tables, with_semaphores, task_count, mutex_count, wait_of, kind_of, owner_of, count_of, messages_of}
-use Rattle.rules.specs.Levels.{owner_awaited, heir_awaited, of_wait, next, lends, under_ceilings, own_level, level_in, links_of, wait_is_for, awaits, waiters_of, best_waiter}
+use Rattle.rules.specs.Tables.{Awaited, mutex_of, sem_of, room_in, message_in, time, Wait, wait_for, SemTable, Tables, with_semaphores, task_count, mutex_count, priority_of, wait_of, kind_of, owner_of, count_of, messages_of}
+use Rattle.rules.specs.Levels.{owner_awaited, heir_awaited, of_wait, next, lends, level_in, links_of, wait_is_for, awaits, waiters_of, best_waiter}
 use Rattle.rules.specs.State.{State, with_tables, placed, level_of}
 use Rattle.rules.specs.Step.{Step, task, mutex, sem, start, lock, unlock, pend, post, flush, sleep, yield, hold, free, tick, level, outcome, queue, send, receive, word}
 use Rattle.rules.specs.Effect.{Effect, done, add_task, add_mutex, add_queue, give, set_count, set_messages, hands, begin_wait, end_waits, caller_waits, lock_by, pass_on, pend_by, credit, flush_of, deliver, send_by, take_in, receive_by, is_due, due, less_one, age, age_all, tick_of, yield_by, effect}
@@ -30,7 +30,7 @@ use Rattle.rules.specs.FactsLaws.{wait_ended}
 use Rattle.rules.specs.WaiterLaws.{best_is_least}
 use Rattle.rules.specs.StepLaws.{passed, called_by_lem, caller_in}
 use Rattle.rules.specs.SoundLaws.{inv_sound}
-use Rattle.rules.specs.History.{Told, tasks_made, own_priority, told_owner, told_heir, told_next, told_lends, told_own_level, told_level, told_best, now_owned, begins, ends_where, ends_of, time_up, ticked, runner_owns, hands_over, tells, now_runs, observe}
+use Rattle.rules.specs.History.{Told, told_owner, told_heir, told_next, told_lends, told_level, told_best, now_owned, begins, ends_where, ends_of, time_up, ticked, runner_owns, hands_over, tells, now_runs, observe}
 use Rattle.rules.specs.Demand.{event_of, told_in}
 use Rattle.rules.specs.RefusalLaws.{refused_number, refused_above, step_by_lem, call_by, sound_stands}
 
@@ -53,7 +53,6 @@ none_told n (some w) e = none_some e refl
 pub record Matches (t : Tables) (h : Told) : Type 0 where
   pub priorities : h.priorities ≡ t.tasks.priorities
   pub kinds : h.kinds ≡ t.mutexes.kinds
-  pub ceilings : h.ceilings ≡ t.mutexes.ceilings
   pub queue_owners : h.queue_owners ≡ t.queues.owners
   pub owner : (m : ℕ) → h.owner m ≡ owner_of t m
   pub wait : (i : ℕ) → as_wait (h.ticks i) (h.wait i) ≡ wait_of t i
@@ -79,7 +78,7 @@ wait_as (some w) = ap (λ l. some (record { on = w.on; left = l })) (go w.left)
 pub tells_agrees : (s : State) → Agrees s (told_in s)
 unfolding told_in
 tells_agrees s = record {
-  tables = record { priorities = refl; kinds = refl; ceilings = refl; queue_owners = refl; owner = λ m. refl; wait = λ i. wait_as (wait_of s.tables i); order = refl };
+  tables = record { priorities = refl; kinds = refl; queue_owners = refl; owner = λ m. refl; wait = λ i. wait_as (wait_of s.tables i); order = refl };
   runs = refl;
   depth = refl;
   started = refl;
@@ -142,16 +141,9 @@ module _ {t : Tables} {h : Told} (A : Matches t h) where
       same (message_in q) = refl
       same time = refl
 
-  pub own_told : told_own_level h ≡ own_level t
-  unfolding told_own_level own_level
-  own_told = fun_ext (λ i. ap (λ c. under_ceilings c h.owner i (own_priority h i)) A.ceilings
-      ∙ ap (λ o. under_ceilings t.mutexes.ceilings o i (own_priority h i)) (fun_ext A.owner)
-      ∙ ap (λ p. under_ceilings t.mutexes.ceilings (owner_of t) i (get_or p i 0)) A.priorities)
-
   pub level_told : told_level h ≡ level_in t
   unfolding told_level level_in
-  level_told = ap (λ f. least_leading (tasks_made h) (told_lends h) f) own_told ∙ ap (λ n. least_leading n (told_lends h) (own_level t)) (ap length A.priorities)
-      ∙ ap (λ l. least_leading (task_count t) l (own_level t)) lends_told
+  level_told = ap (λ p. least_leading (length p) (told_lends h) (λ i. get_or p i 0)) A.priorities ∙ ap (λ l. least_leading (task_count t) l (priority_of t)) lends_told
 
   for_told : (a : Awaited) → (λ i. wait_is_for (h.wait i) a) ≡ awaits t a
   for_told a = fun_ext (λ i. begun_for a (h.ticks i) (h.wait i) ∙ ap (λ w. wait_is_for w a) (A.wait i))
@@ -172,19 +164,17 @@ module _ {t : Tables} {h : Told} (A : Matches t h) where
   matches_task p k = record {
     priorities = ap (λ l. l ++ (p ∷ [])) A.priorities;
     kinds = A.kinds;
-    ceilings = A.ceilings;
     queue_owners = A.queue_owners;
     owner = A.owner;
     wait = λ i. A.wait i ∙ sym (snoc_default none t.tasks.waits i);
     order = A.order;
   }
 
-  matches_mutex : (q : ℕ) (c : Option ℕ) (k : ℕ) → Matches (add_mutex t q c) (tells h (mutex q c) k)
+  matches_mutex : (q k : ℕ) → Matches (add_mutex t q) (tells h (mutex q) k)
   unfolding tells
-  matches_mutex q c k = record {
+  matches_mutex q k = record {
     priorities = A.priorities;
     kinds = ap (λ l. l ++ (q ∷ [])) A.kinds;
-    ceilings = ap (λ l. l ++ (c ∷ [])) A.ceilings;
     queue_owners = A.queue_owners;
     owner = λ m. A.owner m ∙ sym (snoc_default none t.mutexes.owners m);
     wait = A.wait;
@@ -196,7 +186,6 @@ module _ {t : Tables} {h : Told} (A : Matches t h) where
   matches_queue w d o k = record {
     priorities = A.priorities;
     kinds = A.kinds;
-    ceilings = A.ceilings;
     queue_owners = ap (λ l. l ++ (o ∷ [])) A.queue_owners;
     owner = A.owner;
     wait = A.wait;
@@ -205,24 +194,23 @@ module _ {t : Tables} {h : Told} (A : Matches t h) where
 
   -- of messages and words nothing is told
   matches_messages : (q : ℕ) (ms : List (List ℕ)) → Matches (set_messages t q ms) h
-  matches_messages q ms = record { priorities = A.priorities; kinds = A.kinds; ceilings = A.ceilings; queue_owners = A.queue_owners; owner = A.owner; wait = A.wait; order = A.order }
+  matches_messages q ms = record { priorities = A.priorities; kinds = A.kinds; queue_owners = A.queue_owners; owner = A.owner; wait = A.wait; order = A.order }
 
   matches_hands : (i : ℕ) (m : List ℕ) → Matches (hands t i m) h
-  matches_hands i m = record { priorities = A.priorities; kinds = A.kinds; ceilings = A.ceilings; queue_owners = A.queue_owners; owner = A.owner; wait = A.wait; order = A.order }
+  matches_hands i m = record { priorities = A.priorities; kinds = A.kinds; queue_owners = A.queue_owners; owner = A.owner; wait = A.wait; order = A.order }
 
   -- who runs, the hold depth and the phase stand beside the tables
-  matches_beside : (r : Option ℕ) (d : ℕ) (b : Bool) → Matches t (record { priorities = h.priorities; kinds = h.kinds; ceilings = h.ceilings; queue_owners = h.queue_owners; owner = h.owner; wait = h.wait; ticks = h.ticks; order = h.order; runs = r; depth = d; started = b })
-  matches_beside r d b = record { priorities = A.priorities; kinds = A.kinds; ceilings = A.ceilings; queue_owners = A.queue_owners; owner = A.owner; wait = A.wait; order = A.order }
+  matches_beside : (r : Option ℕ) (d : ℕ) (b : Bool) → Matches t (record { priorities = h.priorities; kinds = h.kinds; queue_owners = h.queue_owners; owner = h.owner; wait = h.wait; ticks = h.ticks; order = h.order; runs = r; depth = d; started = b })
+  matches_beside r d b = record { priorities = A.priorities; kinds = A.kinds; queue_owners = A.queue_owners; owner = A.owner; wait = A.wait; order = A.order }
 
   -- of semaphores nothing is told
   matches_sems : (c : SemTable) → Matches (with_semaphores t c) h
-  matches_sems c = record { priorities = A.priorities; kinds = A.kinds; ceilings = A.ceilings; queue_owners = A.queue_owners; owner = A.owner; wait = A.wait; order = A.order }
+  matches_sems c = record { priorities = A.priorities; kinds = A.kinds; queue_owners = A.queue_owners; owner = A.owner; wait = A.wait; order = A.order }
 
   matches_give : (m : ℕ) (o : Option ℕ) → m < mutex_count t → Matches (give t m o) (now_owned h m o)
   matches_give m o low = record {
     priorities = A.priorities;
     kinds = A.kinds;
-    ceilings = A.ceilings;
     queue_owners = A.queue_owners;
     owner = λ k. elim (ℕ_discrete k m) [
       | yes e ↦ rw (e, eq-eqb m m refl) (sym (get_or-set_same t.mutexes.owners m o none low))
@@ -237,7 +225,6 @@ module _ {t : Tables} {h : Told} (A : Matches t h) where
   matches_begin r a n low = record {
     priorities = A.priorities;
     kinds = A.kinds;
-    ceilings = A.ceilings;
     queue_owners = A.queue_owners;
     owner = A.owner;
     wait = λ i. elim (ℕ_discrete i r) [
@@ -252,7 +239,6 @@ module _ {t : Tables} {h : Told} (A : Matches t h) where
   matches_end p out = record {
     priorities = A.priorities;
     kinds = A.kinds;
-    ceilings = A.ceilings;
     queue_owners = A.queue_owners;
     owner = A.owner;
     wait = λ i. by_test (λ (w : Option Wait). as_wait (h.ticks i) w ≡ wait_of (end_waits t p out) i) (p i)
@@ -266,7 +252,6 @@ module _ {t : Tables} {h : Told} (A : Matches t h) where
   matches_tick out = record {
     priorities = A.priorities;
     kinds = A.kinds;
-    ceilings = A.ceilings;
     queue_owners = A.queue_owners;
     owner = A.owner;
     wait = λ i. ap (λ b. as_wait (h.ticks i + 1) (cond b none (h.wait i))) (ap (λ f. f i) due_told)
@@ -384,7 +369,7 @@ module _ (s : State) (h : Told) (I : Inv s) (A : Agrees s h) where
   accept_told : (x : Step) → first_row (refusals s x) ≡ none → After x (effect s x)
   unfolding effect refusals tells flush_of tick_of yield_by ends_where ticked
   accept_told (task p) e = tells_by (task p) (effect s (task p)) (tells h (task p) 0) refl refl (matches_task A.tables p 0) A.depth A.started
-  accept_told (mutex k c) e = tells_by (mutex k c) (effect s (mutex k c)) (tells h (mutex k c) 0) refl refl (matches_mutex A.tables k c 0) A.depth A.started
+  accept_told (mutex k) e = tells_by (mutex k) (effect s (mutex k)) (tells h (mutex k) 0) refl refl (matches_mutex A.tables k 0) A.depth A.started
   accept_told (sem count max) e = tells_by (sem count max) (effect s (sem count max)) h refl refl (matches_sems A.tables _) A.depth A.started
   accept_told start e = tells_by start (effect s start) (tells h start 0) refl refl (matches_beside A.tables _ _ _) A.depth refl
   accept_told (lock m t) e =

@@ -1,8 +1,8 @@
 -- What a step is answered: number, value, next state and task to run, for accepted, refused and unsound.
-use Rattle.std.specs.Prelude.{Bool, true, cond, not, ℕ, ltb, leb, eqb, length}
+use Rattle.std.specs.Prelude.{Bool, true, cond, ℕ, ltb, leb, length}
 use Rattle.std.proofs.Math.Option.{Option, none, some}
 use Rattle.lists.specs.Test.{◌and◌}
-use Rattle.rules.specs.Sizes.{held_words, ceiling_kind}
+use Rattle.rules.specs.Sizes.{held_words}
 use Rattle.rules.specs.State.{State}
 use Rattle.rules.specs.Step.{Step, task, mutex, sem, start, lock, unlock, pend, post, flush, sleep, yield, hold, free, tick, level, outcome, queue, send, receive, word}
 use Rattle.rules.specs.Effect.{effect}
@@ -41,14 +41,13 @@ standing s = cond (soundb s) s.running none
 abbrev pub stopped : State → ℕ → Answer
 stopped s k = answer_with s k 0 (standing s)
 
--- 14: "line not of the form below"; document 02, K1: "14 for a send with no word or over 8"; K4: "14 for kind 2 without c or another kind with it"
+-- 14: "line not of the form below"; document 02, K1: "14 for a send with no word or over 8"
 unfoldable pub malformed : State → Answer
 malformed s = stopped s 14
 
 unfoldable pub is_formed : Step → Bool
 is_formed (task p) = true
-is_formed (mutex k none) = not (eqb k ceiling_kind)
-is_formed (mutex k (some c)) = eqb k ceiling_kind
+is_formed (mutex k) = true
 is_formed (sem count max) = true
 is_formed start = true
 is_formed (lock m t) = true

@@ -13,17 +13,16 @@ use Rattle.lists.specs.TestLaws.{none_some}
 use Rattle.lists.specs.CountLaws.{in_below, below_suc}
 use Rattle.lists.specs.OrderLaws.{ties_insert_tail, asc_change, ties_change}
 use Rattle.lists.specs.TableLaws.{snoc_default, snoc_last, length_snoc}
-use Rattle.rules.specs.Sizes.{max_tasks, max_mutexes, max_semaphores, max_queues, max_depth, levels, granted}
-use Rattle.rules.specs.Tables.{Tables, task_count, mutex_count, sem_count, queue_count, priority_of, outcome_of, wait_of, words_of, ceiling_of, owner_of, messages_of, taken_by, space_taken}
+use Rattle.rules.specs.Sizes.{max_tasks, max_mutexes, max_semaphores, max_queues, max_depth, levels, kinds, granted}
+use Rattle.rules.specs.Tables.{Tables, task_count, mutex_count, sem_count, queue_count, priority_of, outcome_of, wait_of, words_of, owner_of, messages_of, taken_by, space_taken}
 use Rattle.rules.specs.Levels.{level_in}
 use Rattle.rules.specs.State.{State, with_tables, level_of}
 use Rattle.rules.specs.Effect.{done, held_for, add_task, add_mutex, add_sem, add_queue}
 use Rattle.rules.specs.Sound.{is_width}
 use Rattle.rules.specs.Settle.{settled_ready, finish}
-use Rattle.rules.specs.Invariant.{MutexFits, Facts, SetUp, Inv}
-use Rattle.rules.specs.CeilingLaws.{own_free}
+use Rattle.rules.specs.Invariant.{Facts, SetUp, Inv}
 use Rattle.rules.specs.LevelLaws.{wait_out, next_none}
-use Rattle.rules.specs.FactsLaws.{next_same, ends_same, still, suited_same}
+use Rattle.rules.specs.FactsLaws.{next_same, ends_same, still, queued_same}
 use Rattle.rules.specs.QueueLaws.{length_held, held_past}
 use Rattle.rules.specs.SettleLaws.{settled_same, settled_one, finish_inv}
 use Rattle.rules.specs.WaiterLaws.{wait_none, level_alone}
@@ -39,7 +38,6 @@ facts_add_task t p low room F = record {
   width_column = F.width_column;
   depth_column = F.depth_column;
   message_column = F.message_column;
-  ceiling_column = F.ceiling_column;
   few_tasks = omega (arith, more);
   few_mutexes = F.few_mutexes;
   few_semaphores = F.few_semaphores;
@@ -48,7 +46,7 @@ facts_add_task t p low room F = record {
     | yes e ↦ rw (e, snoc_last p 0 t.tasks.priorities) low
     | no n ↦ (let k : i < task_count t = omega (arith, more) in rw (get_or-append t.tasks.priorities (p ∷ []) 0 i k) (F.priorities i k))
   ];
-  mutexes_fit = F.mutexes_fit;
+  kinds_in = F.kinds_in;
   waiting = λ i. rw (snoc_default none t.tasks.waits i) (F.waiting i);
   blocked = λ i. rw (snoc_default none t.tasks.waits i) (still t (add_task t p) (λ m o e. (o, e)) (λ k h e. (h, e)) (λ q h. (h, refl, refl)) (wait_of t i) (F.blocked i));
   timed = λ i. rw (snoc_default none t.tasks.waits i) (F.timed i);
@@ -66,9 +64,8 @@ facts_add_task t p low room F = record {
     | yes e ↦ rw (e, snoc_last (held_for []) [] t.tasks.words) (length_held [] (omega arith))
     | no n ↦ (let k : i < length t.tasks.words = omega (arith, more, F.word_column) in rw (kept i k) (F.words i (omega (arith, F.word_column))))
   ];
-  within = λ m o e. rw (prior o (F.owners m o e)) (F.within m o e);
-  suited = λ i. rw (snoc_default none t.tasks.waits i) (elim (dec_lt i (task_count t)) [
-    | yes h ↦ suited_same t (add_task t p) i refl refl (kept i (omega (arith, F.word_column))) refl (prior i h) (wait_of t i) (F.suited i)
+  queued = λ i. rw (snoc_default none t.tasks.waits i) (elim (dec_lt i (task_count t)) [
+    | yes h ↦ queued_same t (add_task t p) i refl refl (kept i (omega (arith, F.word_column))) (wait_of t i) (F.queued i)
     | no h ↦ rw (wait_out t F.wait_column i (omega arith)) tt
   ]);
 }
@@ -79,12 +76,8 @@ facts_add_task t p low room F = record {
     kept : (i : ℕ) → i < length t.tasks.words → words_of (add_task t p) i ≡ words_of t i
     kept i k = get_or-append t.tasks.words (held_for [] ∷ []) [] i k
 
-    prior : (i : ℕ) → i < task_count t → priority_of (add_task t p) i ≡ priority_of t i
-    prior i k = get_or-append t.tasks.priorities (p ∷ []) 0 i k
-
--- a mutex more, while nobody waits
-pub facts_add_mutex : (t : Tables) (k : ℕ) (c : Option ℕ) → MutexFits k c → mutex_count t < max_mutexes → ((i : ℕ) → wait_of t i ≡ none) → Facts t → Facts (add_mutex t k c)
-facts_add_mutex t k c fits room silent F = record {
+pub facts_add_mutex : (t : Tables) (k : ℕ) → k < kinds → mutex_count t < max_mutexes → Facts t → Facts (add_mutex t k)
+facts_add_mutex t k low room F = record {
   wait_column = F.wait_column;
   outcome_column = F.outcome_column;
   kind_column = omega (arith, F.kind_column, length_snoc t.mutexes.kinds k, more);
@@ -93,47 +86,32 @@ facts_add_mutex t k c fits room silent F = record {
   width_column = F.width_column;
   depth_column = F.depth_column;
   message_column = F.message_column;
-  ceiling_column = omega (arith, F.ceiling_column, length_snoc t.mutexes.ceilings c, more);
   few_tasks = F.few_tasks;
   few_mutexes = omega (arith, more);
   few_semaphores = F.few_semaphores;
   few_queues = F.few_queues;
   priorities = F.priorities;
-  mutexes_fit = λ m h. elim (ℕ_discrete m (mutex_count t)) [
-    | yes e ↦ rw (e, get_or_at t.mutexes.kinds k [] 0 (mutex_count t) F.kind_column, get_or_at t.mutexes.ceilings c [] none (mutex_count t) F.ceiling_column) fits
-    | no n ↦ (let q : m < mutex_count t = omega (arith, more) in
-        rw (get_or-append t.mutexes.kinds (k ∷ []) 0 m (omega (arith, F.kind_column)), old m q) (F.mutexes_fit m q))
+  kinds_in = λ m h. elim (ℕ_discrete m (length t.mutexes.kinds)) [
+    | yes e ↦ rw (e, snoc_last k 0 t.mutexes.kinds) low
+    | no n ↦ (let q : m < length t.mutexes.kinds = omega (arith, more, F.kind_column) in
+        rw (get_or-append t.mutexes.kinds (k ∷ []) 0 m q) (F.kinds_in m (omega (arith, F.kind_column))))
   ];
   waiting = F.waiting;
-  blocked = λ i. rw (silent i) tt;
+  blocked = λ i. still t (add_mutex t k) (λ m o e. (o, snoc_default none t.mutexes.owners m ∙ e)) (λ j h e. (h, e)) (λ q h. (h, refl, refl)) (wait_of t i) (F.blocked i);
   timed = F.timed;
-  owners = λ m o e. F.owners m o (owned m o e).0;
+  owners = λ m o e. F.owners m o (sym (snoc_default none t.mutexes.owners m) ∙ e);
   owned_queues = F.owned_queues;
-  ends = ends_same t (add_mutex t k c) (λ x. next_same t (add_mutex t k c) x refl (snoc_default none t.mutexes.owners) (λ q. refl)) F.ends;
+  ends = ends_same t (add_mutex t k) (λ x. next_same t (add_mutex t k) x refl (snoc_default none t.mutexes.owners) (λ q. refl)) F.ends;
   counts = F.counts;
   outcomes = F.outcomes;
   queues = F.queues;
   placed_in = F.placed_in;
   words = F.words;
-  within = λ m o e. rw (old m (owned m o e).1) (F.within m o (owned m o e).0);
-  suited = λ i. rw (silent i) tt;
+  queued = λ i. queued_same t (add_mutex t k) i refl refl refl (wait_of t i) (F.queued i);
 }
   where
     more : length (t.mutexes.owners ++ (none ∷ [])) ≡ suc (mutex_count t)
     more = length_snoc t.mutexes.owners none
-
-    old : (m : ℕ) → m < mutex_count t → ceiling_of (add_mutex t k c) m ≡ ceiling_of t m
-    old m h = get_or-append t.mutexes.ceilings (c ∷ []) none m (omega (arith, F.ceiling_column))
-
-    -- what is owned was there before
-    owned : (m o : ℕ) → owner_of (add_mutex t k c) m ≡ some o → (owner_of t m ≡ some o) × (m < mutex_count t)
-    owned m o e = let q : owner_of t m ≡ some o = sym (snoc_default none t.mutexes.owners m) ∙ e in (
-      q,
-      elim (dec_lt m (mutex_count t)) [
-        | yes h ↦ h
-        | no h ↦ none_some (get_or-eq_default t.mutexes.owners none (omega arith)) q
-      ],
-    )
 
 pub facts_add_sem : (t : Tables) (count max : ℕ) → 1 ≤ max → count ≤ max → sem_count t < max_semaphores → Facts t → Facts (add_sem t count max)
 facts_add_sem t count max one low room F = record {
@@ -145,13 +123,12 @@ facts_add_sem t count max one low room F = record {
   width_column = F.width_column;
   depth_column = F.depth_column;
   message_column = F.message_column;
-  ceiling_column = F.ceiling_column;
   few_tasks = F.few_tasks;
   few_mutexes = F.few_mutexes;
   few_semaphores = omega (arith, more);
   few_queues = F.few_queues;
   priorities = F.priorities;
-  mutexes_fit = F.mutexes_fit;
+  kinds_in = F.kinds_in;
   waiting = F.waiting;
   blocked = λ i. still t (add_sem t count max) (λ m o e. (o, e)) (λ k h e. (omega (arith, more), get_or-append t.semaphores.counts (count ∷ []) 0 k h ∙ e)) (λ q h. (h, refl, refl)) (wait_of t i) (F.blocked i);
   timed = F.timed;
@@ -167,8 +144,7 @@ facts_add_sem t count max one low room F = record {
   queues = F.queues;
   placed_in = F.placed_in;
   words = F.words;
-  within = F.within;
-  suited = λ i. suited_same t (add_sem t count max) i refl refl refl refl refl (wait_of t i) (F.suited i);
+  queued = λ i. queued_same t (add_sem t count max) i refl refl refl (wait_of t i) (F.queued i);
 }
   where
     more : length (t.semaphores.counts ++ (count ∷ [])) ≡ suc (sem_count t)
@@ -197,13 +173,12 @@ facts_add_queue t w d o wide above deep owned few room silent F = record {
   width_column = omega (arith, F.width_column, length_snoc t.queues.widths w, more);
   depth_column = omega (arith, F.depth_column, length_snoc t.queues.depths d, more);
   message_column = omega (arith, F.message_column, length_snoc t.queues.messages [], more);
-  ceiling_column = F.ceiling_column;
   few_tasks = F.few_tasks;
   few_mutexes = F.few_mutexes;
   few_semaphores = F.few_semaphores;
   few_queues = omega (arith, more);
   priorities = F.priorities;
-  mutexes_fit = F.mutexes_fit;
+  kinds_in = F.kinds_in;
   waiting = F.waiting;
   blocked = λ i. rw (silent i) tt;
   timed = F.timed;
@@ -229,8 +204,7 @@ facts_add_queue t w d o wide above deep owned few room silent F = record {
   ];
   placed_in = rw (more, taken_more t.queues.widths t.queues.depths w d (queue_count t) F.width_column F.depth_column) room;
   words = F.words;
-  within = F.within;
-  suited = λ i. rw (silent i) tt;
+  queued = λ i. rw (silent i) tt;
 }
   where
     more : length (t.queues.owners ++ (o ∷ [])) ≡ suc (queue_count t)
@@ -245,17 +219,14 @@ module _ (s : State) (I : Inv s) (off : s.started ≡ false) where
   U : SetUp s
   U = I.at_set_up off
 
-  silent_now : (i : ℕ) → wait_of s.tables i ≡ none
-  silent_now i = wait_none (wait_of s.tables i) (sym (I.facts.waiting i) ∙ U.nobody_waits i)
+  -- nobody waits, so nobody lends
+  alone : (t : Tables) → Facts t → ((i : ℕ) → occ i t.tasks.waiting ≡ 0) → (i : ℕ) → i < task_count t → level_in t i ≡ priority_of t i
+  alone t F h i k = level_alone t F (λ j. wait_none (wait_of t j) (sym (F.waiting j) ∙ h j)) i k
 
-  -- nobody waits and nothing is owned, so nobody lends and no ceiling lifts
-  alone : (t : Tables) → Facts t → ((i : ℕ) → occ i t.tasks.waiting ≡ 0) → ((m : ℕ) → owner_of t m ≡ none) → (i : ℕ) → i < task_count t → level_in t i ≡ priority_of t i
-  alone t F h free i k = level_alone t F (λ j. wait_none (wait_of t j) (sym (F.waiting j) ∙ h j)) i k ∙ own_free t free i
-
-  ready_alone : (t : Tables) → Facts t → ((i : ℕ) → occ i t.tasks.waiting ≡ 0) → ((m : ℕ) → owner_of t m ≡ none) → task_count s.tables ≤ task_count t
+  ready_alone : (t : Tables) → Facts t → ((i : ℕ) → occ i t.tasks.waiting ≡ 0) → task_count s.tables ≤ task_count t
       → ((i : ℕ) → i < task_count s.tables → priority_of t i ≡ priority_of s.tables i) → (i : ℕ) → 1 ≤ occ i s.ready → level_in t i ≡ level_of s i
-  ready_alone t F h free le same i m = let k = ready_in s I i m in
-      alone t F h free i (omega arith) ∙ (same i k ∙ sym (alone s.tables I.facts U.nobody_waits U.nothing_owned i k))
+  ready_alone t F h le same i m = let k = ready_in s I i m in
+      alone t F h i (omega arith) ∙ (same i k ∙ sym (alone s.tables I.facts U.nobody_waits i k))
 
   -- a creation that makes no task
   object_inv : (t : Tables) (v : ℕ) → Facts t → task_count t ≡ task_count s.tables → t.tasks.waiting ≡ s.tables.tasks.waiting → ((m : ℕ) → owner_of t m ≡ none)
@@ -280,10 +251,10 @@ module _ (s : State) (I : Inv s) (off : s.started ≡ false) where
       silent i = ap (occ i) w ∙ U.nobody_waits i
 
       same : (i : ℕ) → 1 ≤ occ i s.ready → level_in t i ≡ level_of s i
-      same = ready_alone t F silent o (omega arith) (λ i h. p i)
+      same = ready_alone t F silent (omega arith) (λ i h. p i)
 
-  pub mutex_inv : (k : ℕ) (c : Option ℕ) (v : ℕ) → MutexFits k c → mutex_count s.tables < max_mutexes → Inv (finish s (done (with_tables s (add_mutex s.tables k c)) [] v))
-  mutex_inv k c v fits room = object_inv (add_mutex s.tables k c) v (facts_add_mutex s.tables k c fits room silent_now I.facts) refl refl
+  pub mutex_inv : (k v : ℕ) → k < kinds → mutex_count s.tables < max_mutexes → Inv (finish s (done (with_tables s (add_mutex s.tables k)) [] v))
+  mutex_inv k v low room = object_inv (add_mutex s.tables k) v (facts_add_mutex s.tables k low room I.facts) refl refl
       (λ m. snoc_default none s.tables.mutexes.owners m ∙ U.nothing_owned m) U.outcomes_0 (λ i. refl) U.queues_empty refl
 
   pub sem_inv : (count max v : ℕ) → 1 ≤ max → count ≤ max → sem_count s.tables < max_semaphores
@@ -294,7 +265,7 @@ module _ (s : State) (I : Inv s) (off : s.started ≡ false) where
   pub queue_inv : (w d : ℕ) (o : Option ℕ) (v : ℕ) → is_width w ≡ true → 1 ≤ d → d ≤ max_depth → ((i : ℕ) → o ≡ some i → i < task_count s.tables)
       → queue_count s.tables < max_queues → space_taken s.tables + w * d ≤ s.tables.queues.space → Inv (finish s (done (with_tables s (add_queue s.tables w d o)) [] v))
   queue_inv w d o v wide above deep owned few room = object_inv (add_queue s.tables w d o) v
-      (facts_add_queue s.tables w d o wide above deep owned few room silent_now I.facts) refl refl
+      (facts_add_queue s.tables w d o wide above deep owned few room (λ i. wait_none (wait_of s.tables i) (sym (I.facts.waiting i) ∙ U.nobody_waits i)) I.facts) refl refl
       U.nothing_owned U.outcomes_0 (λ i. refl) (λ q. ap length (snoc_default [] s.tables.queues.messages q) ∙ U.queues_empty q) refl
 
   pub task_inv : (p v : ℕ) → p < levels → task_count s.tables < max_tasks → Inv (finish s (done (with_tables s (add_task s.tables p)) (task_count s.tables ∷ []) v))
@@ -337,7 +308,7 @@ module _ (s : State) (I : Inv s) (off : s.started ≡ false) where
       ]
 
       same : (i : ℕ) → 1 ≤ occ i s.ready → level_in t i ≡ level_of s i
-      same = ready_alone t F U.nobody_waits U.nothing_owned (omega (arith, more)) (λ i h. get_or-append s.tables.tasks.priorities (p ∷ []) 0 i h)
+      same = ready_alone t F U.nobody_waits (omega (arith, more)) (λ i h. get_or-append s.tables.tasks.priorities (p ∷ []) 0 i h)
 
       order : settled_ready (task_count t) (level_of s) (level_in t) s.ready (n ∷ []) ≡ insert_tail (level_in t) n s.ready
       order = settled_one (task_count t) n (level_of s) (level_in t) s.ready same I.ascending

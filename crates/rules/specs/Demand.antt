@@ -1,13 +1,13 @@
 -- Demand 3, as a statement over any list of calls from any sound state; DemandLaws proves it. The quotes at `MostUrgent`, `no_ring`, `runs` and
 -- `urgent` are the demand's own words, the others document 01's.
-use Rattle.std.specs.Prelude.{◌≡◌, List, [], ◌∷◌, true, ℕ, ◌≤◌, ◌<◌, length}
+use Rattle.std.specs.Prelude.{◌≡◌, List, [], ◌∷◌, true, ◌⊎◌, ℕ, ◌≤◌, ◌<◌, length}
 use Rattle.std.proofs.Math.Option.{Option, none, some}
 use Rattle.rules.specs.Tables.{wait_of, owner_of}
 use Rattle.rules.specs.State.{State, fresh}
 use Rattle.rules.specs.Step.{Step, level}
 use Rattle.rules.specs.Answer.{Answer}
 use Rattle.rules.specs.Log.{log_line, Call, call}
-use Rattle.rules.specs.History.{Event, Told, tasks_made, own_priority, told_ceiling, told_next, told_lends, told_from}
+use Rattle.rules.specs.History.{Event, Told, tasks_made, own_priority, told_next, told_lends, told_from}
 
 -- "A task's chain of waits on inheriting mutexes leads to the owner of the inheriting mutex for which it waits, and to all tasks to which
 -- that owner's such chain leads."; document 02, K1: "demand 3 read[s] a sender's wait" on an owned queue "as one on an inheriting mutex"
@@ -33,21 +33,11 @@ pub record Runner (h : Told) (r : ℕ) : Type 0 where
   pub awake : h.wait r ≡ none
   pub named : h.runs ≡ some r
 
--- what makes j urgent by itself: its own priority, and document 02, K4: "the ceilings owned"
-pub data Urges (h : Told) (j v : ℕ) : Type 0 where
-  own : v ≡ own_priority h j → Urges h j v
-  ceiling : (m : ℕ) → h.owner m ≡ some j → told_ceiling h m ≡ some v → Urges h j v
-
--- what i's level is taken from: "for the task itself and each task whose chain of waits on inheriting mutexes leads to it"
-pub data Counts (h : Told) (i v : ℕ) : Type 0 where
-  itself : Urges h i v → Counts h i v
-  led : (j : ℕ) → j < tasks_made h → Leads h j i → Urges h j v → Counts h i v
-
--- v is "the most urgent own priority among itself and all tasks whose chain of waits on inheriting mutexes leads to it"; K4: "Levels, in demand 3 too,
--- take the smallest of what 01 says and the ceilings owned"
+-- v is "the most urgent own priority among itself and all tasks whose chain of waits on inheriting mutexes leads to it"
 pub record MostUrgent (h : Told) (i v : ℕ) : Type 0 where
-  pub low : (u : ℕ) → Counts h i u → v ≤ u
-  pub one : Counts h i v
+  pub own : v ≤ own_priority h i
+  pub low : (j : ℕ) → j < tasks_made h → Leads h j i → v ≤ own_priority h j
+  pub one : (v ≡ own_priority h i) ⊎ ((j : ℕ) × (j < tasks_made h) × Leads h j i × (v ≡ own_priority h j))
 
 abbrev pub level_call : ℕ → Option ℕ → Call
 level_call i room = record { made = level i; room = room }
@@ -87,7 +77,6 @@ unfoldable pub told_in : State → Told
 told_in s = record {
   priorities = s.tables.tasks.priorities;
   kinds = s.tables.mutexes.kinds;
-  ceilings = s.tables.mutexes.ceilings;
   queue_owners = s.tables.queues.owners;
   owner = owner_of s.tables;
   wait = wait_of s.tables;

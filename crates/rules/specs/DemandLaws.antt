@@ -11,7 +11,6 @@ use Rattle.lists.specs.TestLaws.{by_test, some_same}
 use Rattle.lists.specs.CountLaws.{occ_opt_other, below_in}
 use Rattle.chains.specs.Chain.{From, here, on, Ended}
 use Rattle.chains.specs.ChainLaws.{no_ring, from_some}
-use Rattle.chains.specs.Least.{least_leading}
 use Rattle.chains.specs.LeastLaws.{leading_low, leading_att}
 use Rattle.rules.specs.Tables.{task_count}
 use Rattle.rules.specs.State.{State, fresh, level_of}
@@ -23,12 +22,11 @@ use Rattle.rules.specs.Sound.{wait_count, soundb}
 use Rattle.rules.specs.Answer.{Answer, answered, decide, step_sound, malformed, is_formed, step}
 use Rattle.rules.specs.Log.{log_line, with_room, Call, in_room, call}
 use Rattle.rules.specs.Invariant.{Started, Inv}
-use Rattle.rules.specs.CeilingLaws.{under_own, under_low, under_att}
 use Rattle.rules.specs.LevelLaws.{lends_ended}
 use Rattle.rules.specs.StepLaws.{caller_in, caller_idle, step_inv, fresh_inv}
 use Rattle.rules.specs.SoundLaws.{sound_inv, inv_sound}
-use Rattle.rules.specs.History.{Told, tasks_made, own_priority, told_own_level, told_next, told_lends, told_level, observe, told_from}
-use Rattle.rules.specs.Demand.{Leads, to_owner, through, WaitRow, Ready, Runner, Urges, own, ceiling, Counts, itself, led, MostUrgent, level_call, HasRoom, Demand, event_of, events, after, told_in, told, Demand3From, Demand3}
+use Rattle.rules.specs.History.{Told, tasks_made, own_priority, told_next, told_lends, told_level, observe, told_from}
+use Rattle.rules.specs.Demand.{Leads, to_owner, through, WaitRow, Ready, Runner, MostUrgent, level_call, HasRoom, Demand, event_of, events, after, told_in, told, Demand3From, Demand3}
 use Rattle.rules.specs.RefusalLaws.{call_by}
 use Rattle.rules.specs.AgreeLaws.{as_wait, Agrees, none_told, tells_agrees, next_told, lends_told, level_told, call_agrees}
 
@@ -70,35 +68,22 @@ module _ (s : State) (h : Told) (I : Inv s) (A : Agrees s h) where
   level_call_lem i low none fits = level_answer s I i (omega (arith, as_many))
   level_call_lem i low (some room) fits = rw (le-leb (length (log_line (step s (level i)))) room fits) (level_answer s I i (omega (arith, as_many)))
 
-  -- what a task's level by itself is taken from
-  urges_low : (j u : ℕ) → Urges h j u → told_own_level h j ≤ u
-  unfolding told_own_level
-  urges_low j u (own e) = omega (arith, under_own h.ceilings h.owner j (own_priority h j))
-  urges_low j u (ceiling m e f) = under_low h.ceilings h.owner j (own_priority h j) m u e f
-
-  urges_one : (j : ℕ) → Urges h j (told_own_level h j)
-  unfolding told_own_level
-  urges_one j = elim (under_att h.ceilings h.owner j (own_priority h j)) [ inl e ↦ own e | inr r ↦ ceiling r.0 r.1 r.2 ]
-
-  pub most_urgent : (i : ℕ) → i < tasks_made h → MostUrgent h i (told_level h i)
+  most_urgent : (i : ℕ) → i < tasks_made h → MostUrgent h i (told_level h i)
   unfolding told_level
   most_urgent i low = record {
-    low = counted;
-    one = let a = leading_att (told_own_level h) chains i low in subst (Counts h i) (sym a.3) (elim (from_leads h a.2 a.0 refl) [
-      | inl e ↦ itself (subst (λ j. Urges h j (told_own_level h a.0)) e (urges_one a.0))
-      | inr g ↦ led a.0 a.1 g (urges_one a.0)
-    ]);
+    own = leading_low (own_priority h) chains i i low here;
+    low = λ j q g. leading_low (own_priority h) chains i j q (leads_from h g);
+    one = let a = leading_att (own_priority h) chains i low in elim (from_leads h a.2 a.0 refl) [
+      | inl e ↦ inl (a.3 ∙ ap (own_priority h) e)
+      | inr g ↦ inr (a.0, a.1, g, a.3)
+    ];
   }
     where
       chains : Ended (tasks_made h) (told_lends h)
       chains = subst (λ n. Ended n (told_lends h)) (sym as_many) (subst (Ended (task_count s.tables)) (sym (lends_told A.tables)) (lends_ended s.tables I.facts))
 
-      counted : (u : ℕ) → Counts h i u → least_leading (tasks_made h) (told_lends h) (told_own_level h) i ≤ u
-      counted u (itself g) = omega (arith, leading_low (told_own_level h) chains i i low here, urges_low i u g)
-      counted u (led j q l g) = omega (arith, leading_low (told_own_level h) chains i j q (leads_from h l), urges_low j u g)
-
   -- a task that neither runs nor waits stands in the ready order
-  pub ready_in : (i : ℕ) → Ready h i → 1 ≤ occ i s.ready
+  ready_in : (i : ℕ) → Ready h i → 1 ≤ occ i s.ready
   unfolding occ as_wait wait_count
   ready_in i r = omega (
     arith,

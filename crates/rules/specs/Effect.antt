@@ -34,12 +34,8 @@ add_task t p = with_tasks t (record {
   waiting = t.tasks.waiting;
 })
 
-abbrev pub add_mutex : Tables → ℕ → Option ℕ → Tables
-add_mutex t k c = with_mutexes t (record {
-  kinds = t.mutexes.kinds ++ (k ∷ []);
-  ceilings = t.mutexes.ceilings ++ (c ∷ []);
-  owners = t.mutexes.owners ++ (none ∷ []);
-})
+abbrev pub add_mutex : Tables → ℕ → Tables
+add_mutex t k = with_mutexes t (record { kinds = t.mutexes.kinds ++ (k ∷ []); owners = t.mutexes.owners ++ (none ∷ []) })
 
 abbrev pub add_sem : Tables → ℕ → ℕ → Tables
 add_sem t count max = with_semaphores t (record { counts = t.semaphores.counts ++ (count ∷ []); maxima = t.semaphores.maxima ++ (max ∷ []) })
@@ -56,7 +52,7 @@ add_queue t w d o = with_queues t (record {
 
 -- m becomes o's, or free
 abbrev pub give : Tables → ℕ → Option ℕ → Tables
-give t m o = with_mutexes t (record { kinds = t.mutexes.kinds; ceilings = t.mutexes.ceilings; owners = set t.mutexes.owners m o })
+give t m o = with_mutexes t (record { kinds = t.mutexes.kinds; owners = set t.mutexes.owners m o })
 
 abbrev pub set_count : Tables → ℕ → ℕ → Tables
 set_count t k n = with_semaphores t (record { counts = set t.semaphores.counts k n; maxima = t.semaphores.maxima })
@@ -204,7 +200,7 @@ called s (some r) f = f r
 
 unfoldable pub effect : State → Step → Effect
 effect s (task p) = done (with_tables s (add_task s.tables p)) (task_count s.tables ∷ []) (task_count s.tables)
-effect s (mutex k c) = done (with_tables s (add_mutex s.tables k c)) [] (mutex_count s.tables)
+effect s (mutex k) = done (with_tables s (add_mutex s.tables k)) [] (mutex_count s.tables)
 effect s (sem count max) = done (with_tables s (add_sem s.tables count max)) [] (sem_count s.tables)
 effect s start = done (with_started s true) [] 0
 effect s (lock m t) = called s s.running (λ r. lock_by s m t r (owner_of s.tables m))

@@ -15,11 +15,11 @@ use Rattle.lists.specs.TableLaws.{length_edit, get_d_edit, get_d_edit_default}
 use Rattle.chains.specs.Chain.{Ends, walk, Ended}
 use Rattle.chains.specs.ChainLaws.{walk_is_chain, ends_change, ends_wait, ends_pass, ends_drop}
 use Rattle.rules.specs.Sizes.{pending}
-use Rattle.rules.specs.Tables.{Awaited, mutex_of, sem_of, room_in, message_in, time, Wait, Tables, task_count, mutex_count, sem_count, queue_count, priority_of, outcome_of, wait_of, words_of, ceiling_of, owner_of, count_of, maximum_of, depth_of, queue_owner_of, messages_of}
+use Rattle.rules.specs.Tables.{Awaited, mutex_of, sem_of, room_in, message_in, time, Wait, Tables, task_count, mutex_count, sem_count, queue_count, outcome_of, wait_of, words_of, owner_of, count_of, maximum_of, depth_of, queue_owner_of, messages_of}
 use Rattle.rules.specs.Levels.{owner_awaited, of_wait, next, chain_of, closes_ring, same_awaited, wait_is_for, awaits}
 use Rattle.rules.specs.Effect.{give, set_count, begin_wait, end_waits, is_due, due, less_one, age, age_all}
 use Rattle.rules.specs.Sound.{wait_count}
-use Rattle.rules.specs.Invariant.{Unavailable, Blocked, Within, Suits, Suited, Left, Timed, Outcome, Facts}
+use Rattle.rules.specs.Invariant.{Unavailable, Blocked, Suits, Queued, Left, Timed, Outcome, Facts}
 use Rattle.rules.specs.LevelLaws.{next_none, awaited_owner, next_ended}
 use Rattle.rules.specs.WaiterLaws.{awaited_self}
 
@@ -61,14 +61,14 @@ still t t' f g h (some w) b = go w.on b
     go (message_in q) u = let e = h q u.0 in (e.0, ap length e.1 ∙ u.1)
     go time u = tt
 
--- how a task waits stays right where its words, the queue's width and the queue's owner stay, its own priority and the ceilings
-pub suited_same : (t t' : Tables) (i : ℕ) → t'.queues.widths ≡ t.queues.widths → t'.queues.owners ≡ t.queues.owners → words_of t' i ≡ words_of t i
-    → t'.mutexes.ceilings ≡ t.mutexes.ceilings → priority_of t' i ≡ priority_of t i → (w : Option Wait) → Suited t i w → Suited t' i w
-suited_same t t' i e f g c p none s = tt
-suited_same t t' i e f g c p (some w) s = go w.on s
+-- how a task waits at a queue stays right where its words, the queue's width and the queue's owner stay
+pub queued_same : (t t' : Tables) (i : ℕ) → t'.queues.widths ≡ t.queues.widths → t'.queues.owners ≡ t.queues.owners → words_of t' i ≡ words_of t i
+    → (w : Option Wait) → Queued t i w → Queued t' i w
+queued_same t t' i e f g none s = tt
+queued_same t t' i e f g (some w) s = go w.on s
   where
     go : (a : Awaited) → Suits t i a → Suits t' i a
-    go (mutex_of m) s = rw (c, p) s
+    go (mutex_of m) s = tt
     go (sem_of k) s = tt
     go (room_in q) s = λ n h. ap (λ l. get_or l n 0) g ∙ s n (omega (arith, ap (λ l. get_or l q 0) e))
     go (message_in q) s = λ o h. s o (ap (λ l. get_or l q none) (sym f) ∙ h)
@@ -96,7 +96,7 @@ module _ (t : Tables) (m : ℕ) (o : Option ℕ) where
   owner_other : (k : ℕ) → (k ≡ m → ⊥) → owner_of (give t m o) k ≡ owner_of t k
   owner_other k n = get_or-set_other t.mutexes.owners m k o none n
 
-  facts_owner : ((i : ℕ) → Blocked (give t m o) (wait_of t i)) → ((k r : ℕ) → owner_of (give t m o) k ≡ some r → (r < task_count t) × Within (ceiling_of t k) (priority_of t r))
+  facts_owner : ((i : ℕ) → Blocked (give t m o) (wait_of t i)) → ((k r : ℕ) → owner_of (give t m o) k ≡ some r → r < task_count t)
       → ((i : ℕ) → Ends (next (give t m o)) (some i)) → Facts t → Facts (give t m o)
   facts_owner blocks owned chains F = record {
     wait_column = F.wait_column;
@@ -107,17 +107,16 @@ module _ (t : Tables) (m : ℕ) (o : Option ℕ) where
     width_column = F.width_column;
     depth_column = F.depth_column;
     message_column = F.message_column;
-    ceiling_column = F.ceiling_column ∙ sym same_length;
     few_tasks = F.few_tasks;
     few_mutexes = omega (arith, F.few_mutexes, same_length);
     few_semaphores = F.few_semaphores;
     few_queues = F.few_queues;
     priorities = F.priorities;
-    mutexes_fit = λ k q. F.mutexes_fit k (omega (arith, same_length));
+    kinds_in = λ k q. F.kinds_in k (omega (arith, same_length));
     waiting = F.waiting;
     blocked = blocks;
     timed = F.timed;
-    owners = λ k r e. (owned k r e).0;
+    owners = owned;
     owned_queues = F.owned_queues;
     ends = chains;
     counts = F.counts;
@@ -125,18 +124,17 @@ module _ (t : Tables) (m : ℕ) (o : Option ℕ) where
     queues = F.queues;
     placed_in = F.placed_in;
     words = F.words;
-    within = λ k r e. (owned k r e).1;
-    suited = λ i. suited_same t (give t m o) i refl refl refl refl refl (wait_of t i) (F.suited i);
+    queued = λ i. queued_same t (give t m o) i refl refl refl (wait_of t i) (F.queued i);
   }
 
--- m becomes o's, who may own it and waits for nothing; others may wait for m
-pub facts_give : (t : Tables) (m o : ℕ) → m < mutex_count t → o < task_count t → wait_of t o ≡ none → Within (ceiling_of t m) (priority_of t o) → Facts t → Facts (give t m (some o))
+-- m becomes o's, who waits for nothing; others may wait for m
+pub facts_give : (t : Tables) (m o : ℕ) → m < mutex_count t → o < task_count t → wait_of t o ≡ none → Facts t → Facts (give t m (some o))
 unfolding next of_wait owner_awaited
-facts_give t m o h low idle under F = facts_owner t m (some o)
+facts_give t m o h low idle F = facts_owner t m (some o)
     (λ i. still t new (λ k r e. elim (ℕ_discrete k m) [ yes p ↦ (o, rw p at_m) | no n ↦ (r, other k n ∙ e) ]) (λ k q e. (q, e)) (λ q h. (h, refl, refl)) (wait_of t i) (F.blocked i))
     (λ k r e. elim (ℕ_discrete k m) [
-      | yes p ↦ (let q : o ≡ r = some_same (sym at_m ∙ rw p at e) in (omega arith, rw (p, ← q) under))
-      | no n ↦ (F.owners k r (sym (other k n) ∙ e), F.within k r (sym (other k n) ∙ e))
+      | yes p ↦ omega (arith, some_same (sym at_m ∙ rw p at e))
+      | no n ↦ F.owners k r (sym (other k n) ∙ e)
     ])
     (λ i. ends_pass o (rw idle refl) (λ x. each (wait_of t x)) (F.ends i).1)
     F
@@ -168,7 +166,7 @@ facts_free t m nobody F = facts_owner t m none
     (λ i. kept (wait_of t i) (nobody i) (F.blocked i))
     (λ k r e. elim (ℕ_discrete k m) [
       | yes p ↦ none_some (freed k p) e
-      | no n ↦ (F.owners k r (sym (other k n) ∙ e), F.within k r (sym (other k n) ∙ e))
+      | no n ↦ F.owners k r (sym (other k n) ∙ e)
     ])
     (ends_same t new (λ x. each (wait_of t x) (nobody x)) F.ends)
     F
@@ -223,13 +221,12 @@ facts_begin t r w h idle un suits left clear F = record {
   width_column = F.width_column;
   depth_column = F.depth_column;
   message_column = F.message_column;
-  ceiling_column = F.ceiling_column;
   few_tasks = F.few_tasks;
   few_mutexes = F.few_mutexes;
   few_semaphores = F.few_semaphores;
   few_queues = F.few_queues;
   priorities = F.priorities;
-  mutexes_fit = F.mutexes_fit;
+  kinds_in = F.kinds_in;
   waiting = λ i. elim (ℕ_discrete i r) [
     | yes p ↦ rw (p, at_r) (omega (arith, F.waiting r, ap wait_count idle, occ_append r t.tasks.waiting (r ∷ []), eqn_at r r refl))
     | no n ↦ rw (other i n) (omega (arith, F.waiting i, occ_append i t.tasks.waiting (r ∷ []), eqn_other r i (λ q. n (sym q))))
@@ -247,10 +244,9 @@ facts_begin t r w h idle un suits left clear F = record {
   queues = F.queues;
   placed_in = F.placed_in;
   words = F.words;
-  within = F.within;
-  suited = λ i. elim (ℕ_discrete i r) [
-    | yes p ↦ rw (p, at_r) (suited_same t new r refl refl refl refl refl (some w) suits)
-    | no n ↦ rw (other i n) (suited_same t new i refl refl refl refl refl (wait_of t i) (F.suited i))
+  queued = λ i. elim (ℕ_discrete i r) [
+    | yes p ↦ rw (p, at_r) (queued_same t new r refl refl refl (some w) suits)
+    | no n ↦ rw (other i n) (queued_same t new i refl refl refl (wait_of t i) (F.queued i))
   ];
 }
   where
@@ -301,13 +297,12 @@ facts_end t p out good F = record {
   width_column = F.width_column;
   depth_column = F.depth_column;
   message_column = F.message_column;
-  ceiling_column = F.ceiling_column;
   few_tasks = F.few_tasks;
   few_mutexes = F.few_mutexes;
   few_semaphores = F.few_semaphores;
   few_queues = F.few_queues;
   priorities = F.priorities;
-  mutexes_fit = F.mutexes_fit;
+  kinds_in = F.kinds_in;
   waiting = λ i. elim (which (p i)) [
     | inl e ↦ rw (gone i e) (occ_dropped (λ j. not (p j)) i t.tasks.waiting (rw e refl))
     | inr e ↦ rw (stays i e) (occ_kept (λ j. not (p j)) i t.tasks.waiting (rw e refl) ∙ F.waiting i)
@@ -325,8 +320,7 @@ facts_end t p out good F = record {
   queues = F.queues;
   placed_in = F.placed_in;
   words = F.words;
-  within = F.within;
-  suited = λ i. elim (which (p i)) [ inl e ↦ rw (gone i e) tt | inr e ↦ rw (stays i e) (suited_same t new i refl refl refl refl refl (wait_of t i) (F.suited i)) ];
+  queued = λ i. elim (which (p i)) [ inl e ↦ rw (gone i e) tt | inr e ↦ rw (stays i e) (queued_same t new i refl refl refl (wait_of t i) (F.queued i)) ];
 }
   where
     new : Tables
@@ -352,13 +346,12 @@ facts_count t k n nobody low F = record {
   width_column = F.width_column;
   depth_column = F.depth_column;
   message_column = F.message_column;
-  ceiling_column = F.ceiling_column;
   few_tasks = F.few_tasks;
   few_mutexes = F.few_mutexes;
   few_semaphores = omega (arith, F.few_semaphores, same_length);
   few_queues = F.few_queues;
   priorities = F.priorities;
-  mutexes_fit = F.mutexes_fit;
+  kinds_in = F.kinds_in;
   waiting = F.waiting;
   blocked = λ i. away t (set_count t k n) (λ m. refl) k (λ j q h. (omega (arith, same_length), get_or-set_other t.semaphores.counts k j n 0 q)) (λ q h. (h, refl, refl)) (wait_of t i) (nobody i) (F.blocked i);
   timed = F.timed;
@@ -373,8 +366,7 @@ facts_count t k n nobody low F = record {
   queues = F.queues;
   placed_in = F.placed_in;
   words = F.words;
-  within = F.within;
-  suited = λ i. suited_same t (set_count t k n) i refl refl refl refl refl (wait_of t i) (F.suited i);
+  queued = λ i. queued_same t (set_count t k n) i refl refl refl (wait_of t i) (F.queued i);
 }
   where
     same_length : length (set t.semaphores.counts k n) ≡ sem_count t
@@ -392,13 +384,12 @@ facts_age t later F = record {
   width_column = F.width_column;
   depth_column = F.depth_column;
   message_column = F.message_column;
-  ceiling_column = F.ceiling_column;
   few_tasks = F.few_tasks;
   few_mutexes = F.few_mutexes;
   few_semaphores = F.few_semaphores;
   few_queues = F.few_queues;
   priorities = F.priorities;
-  mutexes_fit = F.mutexes_fit;
+  kinds_in = F.kinds_in;
   waiting = λ i. rw (aged i) (F.waiting i ∙ age_count (wait_of t i));
   blocked = λ i. rw (aged i) (age_blocked (wait_of t i) (F.blocked i));
   timed = λ i. rw (aged i) (age_timed (wait_of t i) (later i) (F.timed i));
@@ -410,8 +401,7 @@ facts_age t later F = record {
   queues = F.queues;
   placed_in = F.placed_in;
   words = F.words;
-  within = F.within;
-  suited = λ i. rw (aged i) (age_suited i (wait_of t i) (F.suited i));
+  queued = λ i. rw (aged i) (age_queued i (wait_of t i) (F.queued i));
 }
   where
     aged : (i : ℕ) → wait_of (age_all t) i ≡ age (wait_of t i)
@@ -425,9 +415,9 @@ facts_age t later F = record {
     age_owner none = refl
     age_owner (some w) = owner_same t (age_all t) (λ m. refl) (λ q. refl) w.on
 
-    age_suited : (i : ℕ) (w : Option Wait) → Suited t i w → Suited (age_all t) i (age w)
-    age_suited i none s = tt
-    age_suited i (some w) s = suited_same t (age_all t) i refl refl refl refl refl (some w) s
+    age_queued : (i : ℕ) (w : Option Wait) → Queued t i w → Queued (age_all t) i (age w)
+    age_queued i none s = tt
+    age_queued i (some w) s = queued_same t (age_all t) i refl refl refl (some w) s
 
     age_blocked : (w : Option Wait) → Blocked t w → Blocked (age_all t) (age w)
     age_blocked none b = tt

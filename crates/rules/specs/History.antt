@@ -6,7 +6,7 @@ use Rattle.lists.specs.Order.{keep, least_first}
 use Rattle.chains.specs.Least.{least_leading}
 use Rattle.rules.specs.Sizes.{inheriting}
 use Rattle.rules.specs.Tables.{Awaited, mutex_of, sem_of, room_in, message_in, time, Wait, wait_for}
-use Rattle.rules.specs.Levels.{under_ceilings, of_wait, wait_is_for}
+use Rattle.rules.specs.Levels.{of_wait, wait_is_for}
 use Rattle.rules.specs.Step.{Step, task, mutex, sem, start, lock, unlock, pend, post, flush, sleep, yield, hold, free, tick, level, outcome, queue, send, receive, word}
 use Rattle.rules.specs.Refusal.{of_caller}
 
@@ -20,9 +20,8 @@ pub record Event : Type 0 where
 pub record Told : Type 0 where
   -- "A task's own priority is the one it was made with."
   pub priorities : List ℕ
-  -- each mutex's kind is the one it was made with, and so is its ceiling, where it has one
+  -- each mutex's kind is the one it was made with
   pub kinds : List ℕ
-  pub ceilings : List (Option ℕ)
   -- each queue's owner, or none, is the one it was made with
   pub queue_owners : List (Option ℕ)
   -- "It owns a mutex from the lock or unlock that gives it the mutex until its own accepted unlock of it."
@@ -47,9 +46,6 @@ tasks_made h = length h.priorities
 abbrev pub own_priority : Told → ℕ → ℕ
 own_priority h i = get_or h.priorities i 0
 
-abbrev pub told_ceiling : Told → ℕ → Option ℕ
-told_ceiling h m = get_or h.ceilings m none
-
 -- the owner of what is awaited, and who is lent the level of a task that waits for it
 unfoldable pub told_owner : Told → Awaited → Option ℕ
 told_owner h (mutex_of m) = h.owner m
@@ -72,12 +68,9 @@ told_next h i = of_wait (told_owner h) (h.wait i)
 unfoldable pub told_lends : Told → ℕ → Option ℕ
 told_lends h i = of_wait (told_heir h) (h.wait i)
 
--- the level as the history defines it: "the smallest of what 01 says and the ceilings owned", which come from creation and ownership as told
-unfoldable pub told_own_level : Told → ℕ → ℕ
-told_own_level h i = under_ceilings h.ceilings h.owner i (own_priority h i)
-
+-- the level as the history defines it
 unfoldable pub told_level : Told → ℕ → ℕ
-told_level h = least_leading (tasks_made h) (told_lends h) (told_own_level h)
+told_level h = least_leading (tasks_made h) (told_lends h) (own_priority h)
 
 -- the best waiter: least level as the history defines it, oldest wait first
 unfoldable pub told_best : Told → Awaited → Option ℕ
@@ -88,14 +81,14 @@ abbrev pub at : {A : Type 0} → ℕ → A → (ℕ → A) → ℕ → A
 at k x f i = cond (eqb i k) x (f i)
 
 -- setters: what was made; what stands beside the tables; who owns and who waits
-abbrev pub told_made : Told → List ℕ → List ℕ → List (Option ℕ) → List (Option ℕ) → Told
-told_made h p k c q = record { priorities = p; kinds = k; ceilings = c; queue_owners = q; owner = h.owner; wait = h.wait; ticks = h.ticks; order = h.order; runs = h.runs; depth = h.depth; started = h.started }
+abbrev pub told_made : Told → List ℕ → List ℕ → List (Option ℕ) → Told
+told_made h p k q = record { priorities = p; kinds = k; queue_owners = q; owner = h.owner; wait = h.wait; ticks = h.ticks; order = h.order; runs = h.runs; depth = h.depth; started = h.started }
 
 abbrev pub told_beside : Told → Option ℕ → ℕ → Bool → Told
-told_beside h r d b = record { priorities = h.priorities; kinds = h.kinds; ceilings = h.ceilings; queue_owners = h.queue_owners; owner = h.owner; wait = h.wait; ticks = h.ticks; order = h.order; runs = r; depth = d; started = b }
+told_beside h r d b = record { priorities = h.priorities; kinds = h.kinds; queue_owners = h.queue_owners; owner = h.owner; wait = h.wait; ticks = h.ticks; order = h.order; runs = r; depth = d; started = b }
 
 abbrev pub told_held : Told → (ℕ → Option ℕ) → (ℕ → Option Wait) → (ℕ → ℕ) → List ℕ → Told
-told_held h o w n l = record { priorities = h.priorities; kinds = h.kinds; ceilings = h.ceilings; queue_owners = h.queue_owners; owner = o; wait = w; ticks = n; order = l; runs = h.runs; depth = h.depth; started = h.started }
+told_held h o w n l = record { priorities = h.priorities; kinds = h.kinds; queue_owners = h.queue_owners; owner = o; wait = w; ticks = n; order = l; runs = h.runs; depth = h.depth; started = h.started }
 
 abbrev pub now_owned : Told → ℕ → Option ℕ → Told
 now_owned h m o = told_held h (at m o h.owner) h.wait h.ticks h.order
@@ -131,8 +124,8 @@ hands_over h m w = now_owned (ends_of h w) m w
 
 -- what an accepted step tells, by its answer's number
 unfoldable pub tells : Told → Step → ℕ → Told
-tells h (task p) k = told_made h (h.priorities ++ (p ∷ [])) h.kinds h.ceilings h.queue_owners
-tells h (mutex q c) k = told_made h h.priorities (h.kinds ++ (q ∷ [])) (h.ceilings ++ (c ∷ [])) h.queue_owners
+tells h (task p) k = told_made h (h.priorities ++ (p ∷ [])) h.kinds h.queue_owners
+tells h (mutex q) k = told_made h h.priorities (h.kinds ++ (q ∷ [])) h.queue_owners
 tells h (sem count max) k = h
 tells h start k = told_beside h h.runs h.depth true
 tells h (lock m t) k = cond (eqb k 1) (begins h (mutex_of m) t h.runs) (now_owned h m h.runs)
@@ -147,7 +140,7 @@ tells h free k = told_beside h h.runs (h.depth - 1) h.started
 tells h tick k = ticked h
 tells h (level i) k = h
 tells h (outcome i) k = h
-tells h (queue w d o) k = told_made h h.priorities h.kinds h.ceilings (h.queue_owners ++ (o ∷ []))
+tells h (queue w d o) k = told_made h h.priorities h.kinds (h.queue_owners ++ (o ∷ []))
 tells h (send q t m) k = cond (eqb k 1) (begins h (room_in q) t h.runs) (ends_of h (told_best h (message_in q)))
 tells h (receive q t) k = cond (eqb k 1) (begins h (message_in q) t h.runs) (ends_of h (told_best h (room_in q)))
 tells h (word i n) k = h

@@ -4,8 +4,8 @@ use Rattle.std.proofs.Math.Option.{Option, none, some}
 use Rattle.lists.specs.Count.{occ, below, opt}
 use Rattle.lists.specs.Order.{Asc, Ties}
 use Rattle.chains.specs.Chain.{Ends}
-use Rattle.rules.specs.Sizes.{max_tasks, max_mutexes, max_semaphores, max_queues, max_depth, held_words, levels, kinds, ceiling_kind, word_size, max_hold, max_ticks, granted, pending, timed_out, flushed}
-use Rattle.rules.specs.Tables.{Awaited, mutex_of, sem_of, room_in, message_in, time, is_sleep, Wait, Tables, task_count, mutex_count, sem_count, queue_count, priority_of, outcome_of, wait_of, words_of, kind_of, ceiling_of, owner_of, count_of, maximum_of, width_of, depth_of, queue_owner_of, messages_of, space_taken}
+use Rattle.rules.specs.Sizes.{max_tasks, max_mutexes, max_semaphores, max_queues, max_depth, held_words, levels, kinds, word_size, max_hold, max_ticks, granted, pending, timed_out, flushed}
+use Rattle.rules.specs.Tables.{Awaited, mutex_of, sem_of, room_in, message_in, time, is_sleep, Wait, Tables, task_count, mutex_count, sem_count, queue_count, priority_of, outcome_of, wait_of, words_of, kind_of, owner_of, count_of, maximum_of, width_of, depth_of, queue_owner_of, messages_of, space_taken}
 use Rattle.rules.specs.Levels.{next}
 use Rattle.rules.specs.State.{State, level_of}
 use Rattle.rules.specs.Sound.{wait_count, is_width}
@@ -22,28 +22,17 @@ abbrev pub Blocked : Tables → Option Wait → Type 0
 Blocked t none = Unit
 Blocked t (some w) = Unavailable t w.on
 
--- "kind 2: `mutex 2 c`, with ceiling c from 0 to 31"; the other kinds have no ceiling
-abbrev pub MutexFits : ℕ → Option ℕ → Type 0
-MutexFits k none = (k < kinds) × (k ≡ ceiling_kind → ⊥)
-MutexFits k (some c) = (k ≡ ceiling_kind) × (c < levels)
-
--- an own priority that is no smaller number than the ceiling
-abbrev pub Within : Option ℕ → ℕ → Type 0
-Within none p = Unit
-Within (some c) p = c ≤ p
-
--- "only the owner waits to receive from an owned queue, and a waiting sender's words past w are 0"; "No owner or waiter of one has an own priority
--- smaller than c"
+-- "only the owner waits to receive from an owned queue, and a waiting sender's words past w are 0"
 abbrev pub Suits : Tables → ℕ → Awaited → Type 0
-Suits t i (mutex_of m) = Within (ceiling_of t m) (priority_of t i)
+Suits t i (mutex_of m) = Unit
 Suits t i (sem_of k) = Unit
 Suits t i (room_in q) = (n : ℕ) → width_of t q ≤ n → get_or (words_of t i) n 0 ≡ 0
 Suits t i (message_in q) = (o : ℕ) → queue_owner_of t q ≡ some o → o ≡ i
 Suits t i time = Unit
 
-abbrev pub Suited : Tables → ℕ → Option Wait → Type 0
-Suited t i none = Unit
-Suited t i (some w) = Suits t i w.on
+abbrev pub Queued : Tables → ℕ → Option Wait → Type 0
+Queued t i none = Unit
+Queued t i (some w) = Suits t i w.on
 
 -- a queue's numbers are in range, and its messages fit
 pub record QueueFits (w d : ℕ) (ms : List (List ℕ)) : Type 0 where
@@ -77,14 +66,13 @@ pub record Facts (t : Tables) : Type 0 where
   pub width_column : length t.queues.widths ≡ queue_count t
   pub depth_column : length t.queues.depths ≡ queue_count t
   pub message_column : length t.queues.messages ≡ queue_count t
-  pub ceiling_column : length t.mutexes.ceilings ≡ mutex_count t
   -- "Numbers within the ranges above"
   pub few_tasks : task_count t ≤ max_tasks
   pub few_mutexes : mutex_count t ≤ max_mutexes
   pub few_semaphores : sem_count t ≤ max_semaphores
   pub few_queues : queue_count t ≤ max_queues
   pub priorities : (i : ℕ) → i < task_count t → priority_of t i < levels
-  pub mutexes_fit : (m : ℕ) → m < mutex_count t → MutexFits (kind_of t m) (ceiling_of t m)
+  pub kinds_in : (m : ℕ) → m < mutex_count t → kind_of t m < kinds
   -- who waits stands once in the order of waits, and nobody else
   pub waiting : (i : ℕ) → occ i t.tasks.waiting ≡ wait_count (wait_of t i)
   pub blocked : (i : ℕ) → Blocked t (wait_of t i)
@@ -102,8 +90,7 @@ pub record Facts (t : Tables) : Type 0 where
   pub placed_in : space_taken t ≤ t.queues.space
   -- "A task holds eight words"
   pub words : (i : ℕ) → i < task_count t → length (words_of t i) ≡ held_words
-  pub suited : (i : ℕ) → Suited t i (wait_of t i)
-  pub within : (m o : ℕ) → owner_of t m ≡ some o → Within (ceiling_of t m) (priority_of t o)
+  pub queued : (i : ℕ) → Queued t i (wait_of t i)
 
 -- each task in exactly one of woken (ready, but not yet in the ready order), ready, waiting, running
 abbrev pub Places : State → List ℕ → Type 0

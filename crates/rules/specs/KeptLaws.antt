@@ -20,7 +20,7 @@ moves_words (task p) = true
 moves_words (queue w d o) = true
 moves_words (send q t m) = true
 moves_words (receive q t) = true
-moves_words (mutex k c) = false
+moves_words (mutex k) = false
 moves_words (sem count max) = false
 moves_words start = false
 moves_words (lock m t) = false
@@ -53,7 +53,7 @@ module _ (s : State) where
   effect_keeps : (x : Step) → moves_words x ≡ false → Keeps (effect s x)
   unfolding effect moves_words lock_by pass_on pend_by credit flush_of tick_of yield_by caller_waits
   effect_keeps (task p) e = absurd (clash refl e)
-  effect_keeps (mutex k c) e = same
+  effect_keeps (mutex k) e = same
   effect_keeps (sem count max) e = same
   effect_keeps start e = same
   effect_keeps (lock m t) e = called_keeps s.running _ (λ r. go r (owner_of s.tables m))

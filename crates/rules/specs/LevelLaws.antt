@@ -10,14 +10,13 @@ use Rattle.lists.specs.Count.{occ}
 use Rattle.lists.specs.Order.{before}
 use Rattle.lists.specs.TestLaws.{by_test, none_some}
 use Rattle.chains.specs.Chain.{Chain, walk, Ended}
-use Rattle.chains.specs.Least.{leads_to, least_leading, Recursive}
+use Rattle.chains.specs.Least.{Recursive}
 use Rattle.chains.specs.ChainLaws.{walk_none, walk_is_chain, walk_short, ends_drop}
-use Rattle.chains.specs.LeastLaws.{least_start, leading_att, leading_recursive, leading_only}
+use Rattle.chains.specs.LeastLaws.{leading_att, leading_recursive, leading_only}
 use Rattle.rules.specs.Sizes.{levels, inheriting}
-use Rattle.rules.specs.Tables.{Awaited, mutex_of, sem_of, room_in, message_in, time, Wait, Tables, task_count, wait_of, kind_of, owner_of, queue_owner_of}
-use Rattle.rules.specs.Levels.{owner_awaited, heir_awaited, of_wait, next, lends, own_level, level_in, chain_of, links_of, closes_ring}
+use Rattle.rules.specs.Tables.{Awaited, mutex_of, sem_of, room_in, message_in, time, Wait, Tables, task_count, priority_of, wait_of, kind_of, owner_of, queue_owner_of}
+use Rattle.rules.specs.Levels.{owner_awaited, heir_awaited, of_wait, next, lends, level_in, chain_of, links_of, closes_ring}
 use Rattle.rules.specs.Invariant.{Facts}
-use Rattle.rules.specs.CeilingLaws.{own_in}
 
 -- behind the last task nobody waits
 pub wait_out : (t : Tables) → length t.tasks.waits ≡ task_count t → (i : ℕ) → task_count t ≤ i → wait_of t i ≡ none
@@ -66,11 +65,6 @@ lend_or t i = go (wait_of t i)
 
 pub lend_next : (t : Tables) (i j : ℕ) → lends t i ≡ some j → next t i ≡ some j
 lend_next t i j e = elim (lend_or t i) [ inl q ↦ sym q ∙ e | inr q ↦ none_some q e ]
-
--- the level is no less urgent than the task's by itself
-pub level_own : (t : Tables) (i : ℕ) → level_in t i ≤ own_level t i
-unfolding level_in least_leading
-level_own t i = least_start (λ j. leads_to (task_count t) (lends t) j i) (own_level t) (own_level t i) (task_count t)
 
 module _ (t : Tables) (F : Facts t) where
   -- the owner of what is awaited is a task
@@ -123,18 +117,17 @@ module _ (t : Tables) (F : Facts t) where
       go zero h = absurd (omega arith)
       go (suc f) h = rw (ne_eqb o r n) (omega arith)
 
-  -- "A task's level is the smallest of its own priority and the levels of all tasks waiting on inheriting mutexes that it owns": so it is, document 02, K4,
-  -- with the smallest of own priority and ceilings owned for the own priority
-  pub level_recursive : Recursive (task_count t) (lends t) (own_level t) (level_in t)
+  -- "A task's level is the smallest of its own priority and the levels of all tasks waiting on inheriting mutexes that it owns": so it is
+  pub level_recursive : Recursive (task_count t) (lends t) (priority_of t) (level_in t)
   unfolding level_in
-  level_recursive = leading_recursive (own_level t) lends_ended
+  level_recursive = leading_recursive (priority_of t) lends_ended
 
   -- and nothing else is
-  pub level_only : (f : ℕ → ℕ) → Recursive (task_count t) (lends t) (own_level t) f → (i : ℕ) → i < task_count t → f i ≡ level_in t i
+  pub level_only : (f : ℕ → ℕ) → Recursive (task_count t) (lends t) (priority_of t) f → (i : ℕ) → i < task_count t → f i ≡ level_in t i
   unfolding level_in
-  level_only = leading_only (own_level t) lends_ended
+  level_only = leading_only (priority_of t) lends_ended
 
-  -- the level is that of some task by itself
+  -- the level is some task's own priority
   pub level_in_lem : (i : ℕ) → i < task_count t → level_in t i < levels
   unfolding level_in
-  level_in_lem i h = let a = leading_att (own_level t) lends_ended i h in omega (arith, own_in t F a.0 a.1)
+  level_in_lem i h = let a = leading_att (priority_of t) lends_ended i h in omega (arith, F.priorities a.0 a.1)

@@ -1,11 +1,11 @@
 -- Level, chain of a mutex or queue, links, waiters and best waiter: all that follows from the tables.
-use Rattle.std.specs.Prelude.{List, Bool, false, cond, ℕ, eqb, length, get_or}
+use Rattle.std.specs.Prelude.{List, Bool, false, cond, ℕ, eqb, length}
 use Rattle.std.proofs.Math.Option.{Option, none, some}
-use Rattle.lists.specs.Test.{◌and◌, someb, holds}
+use Rattle.lists.specs.Test.{◌and◌}
 use Rattle.lists.specs.Count.{member}
 use Rattle.lists.specs.Order.{keep, first_from, before}
 use Rattle.chains.specs.Chain.{walk}
-use Rattle.chains.specs.Least.{least, least_leading}
+use Rattle.chains.specs.Least.{least_leading}
 use Rattle.rules.specs.Sizes.{levels, inheriting}
 use Rattle.rules.specs.Tables.{Awaited, mutex_of, sem_of, room_in, message_in, time, awaited_kind, awaited_object, Wait, Tables, task_count, priority_of, wait_of, kind_of, owner_of, queue_owner_of}
 
@@ -18,8 +18,7 @@ owner_awaited t (room_in q) = queue_owner_of t q
 owner_awaited t (message_in q) = none
 owner_awaited t time = none
 
--- who is lent the level of a task that waits for it: the owner of an inheriting mutex, or of the queue that it waits to send to. Document 02, K4, of
--- a ceiling mutex: "Waiters lend nothing through it; rings and links count it."
+-- who is lent the level of a task that waits for it: the owner of an inheriting mutex, or of the queue that it waits to send to
 unfoldable pub heir_awaited : Tables → Awaited → Option ℕ
 heir_awaited t (mutex_of m) = cond (eqb (kind_of t m) inheriting) (owner_of t m) none
 heir_awaited t (sem_of k) = none
@@ -40,25 +39,10 @@ next t i = of_wait (owner_awaited t) (wait_of t i)
 unfoldable pub lends : Tables → ℕ → Option ℕ
 lends t i = of_wait (heir_awaited t) (wait_of t i)
 
--- the level that a ceiling is; without one, a number that lifts nobody
-unfoldable pub ceiling_level : Option ℕ → ℕ
-ceiling_level none = levels
-ceiling_level (some c) = c
-
--- the smallest of p and the ceilings of the mutexes that i owns
-unfoldable pub under_ceilings : List (Option ℕ) → (ℕ → Option ℕ) → ℕ → ℕ → ℕ
-under_ceilings ceilings owner i p =
-    let ceiling : ℕ → Option ℕ = λ m. get_or ceilings m none in
-    least (length ceilings) (λ m. holds (owner m) i and someb (ceiling m)) (λ m. ceiling_level (ceiling m)) p
-
--- document 02, K4: "the smallest of what 01 says and the ceilings owned, for the task itself": the level of i where nobody lends to it
-unfoldable pub own_level : Tables → ℕ → ℕ
-own_level t i = under_ceilings t.mutexes.ceilings (owner_of t) i (priority_of t i)
-
--- document 01's term "level": the most urgent own priority, and since K4 the most urgent ceiling owned, among i and all tasks whose chain of waits on
--- inheriting mutexes leads to i ("The definition follows the chain from waiter to owner as far as it goes."; LevelLaws has its recursive wording)
+-- document 01's term "level": the most urgent own priority among i and all tasks whose chain of waits on inheriting mutexes leads to i
+-- ("The definition follows the chain from waiter to owner as far as it goes."; LevelLaws has its recursive wording)
 unfoldable pub level_in : Tables → ℕ → ℕ
-level_in t = least_leading (task_count t) (lends t) (own_level t)
+level_in t = least_leading (task_count t) (lends t) (priority_of t)
 
 -- document 01's term "chain of a mutex": "Its owner, then the owner of the mutex for which that task waits, and so on, plain mutexes
 -- counted too. It ends at a task that waits for no mutex". The fuel is the number of tasks: it cuts no chain of a sound state (LevelLaws).

@@ -11,7 +11,6 @@ pub mod Sound
 pub mod Answer
 pub mod Log
 pub mod Invariant
-pub mod CeilingLaws
 pub mod LevelLaws
 pub mod FactsLaws
 pub mod QueueLaws
@@ -31,7 +30,5 @@ pub mod OutcomeLaws
 pub mod KeptLaws
 pub mod Woken
 pub mod WokenLaws
-pub mod Displace
-pub mod DisplaceLaws
 pub mod Objects
 pub mod LinkLaws

@@ -159,8 +159,7 @@ module _ (s : State) (I : Inv s) (m t : ℕ) where
       let c = skip 6 _ _ q h (λ z. omega arith) (λ z. omega arith) b.1 in
       let d = skip 7 _ _ q h (λ z. omega arith) (λ z. omega arith) c.1 in
       let f = skip 9 _ _ q h (λ z. omega arith) (λ z. omega arith) d.1 in
-      let c16 = skip 16 _ _ q h (λ z. omega arith) (λ z. omega arith) f.1 in
-      let g = skip 3 _ _ q h (λ z. omega arith) (λ z. omega arith) c16.1 in
+      let g = skip 3 _ _ q h (λ z. omega arith) (λ z. omega arith) f.1 in
       let k = skip 11 _ _ q h (λ z. omega arith) (λ z. omega arith) g.1 in
       let w = last_row (ring_row s (taken s m) (mutex_of m)) q k.1 in
       let r = some_true s.running (not-false (someb s.running) b.0) in

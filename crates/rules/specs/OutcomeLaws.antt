@@ -98,7 +98,7 @@ module _ (s : State) (I : Inv s) (i : ℕ) (h : i < task_count s.tables) (idle :
   effect_leaves : (x : Step) → first_row (refusals s x) ≡ none → Leaves (effect s x)
   unfolding effect refusals lock_by pass_on pend_by credit flush_of tick_of yield_by
   effect_leaves (task p) e = λ after. snoc_default granted s.tables.tasks.outcomes i
-  effect_leaves (mutex k c) e = λ after. refl
+  effect_leaves (mutex k) e = λ after. refl
   effect_leaves (sem count max) e = λ after. refl
   effect_leaves start e = λ after. refl
   effect_leaves (lock m t) e = called_by_lem Leaves s s.running _ (passed _ _ (passed _ _ e).1).0 (λ r run. go r run (owner_of s.tables m))

@@ -13,8 +13,8 @@ use Rattle.rules.specs.Tables.{Awaited, mutex_of, sem_of, room_in, message_in, t
 use Rattle.rules.specs.Levels.{next, chain_of, same_awaited, wait_is_for, awaits}
 use Rattle.rules.specs.Effect.{held_for, set_messages, hands}
 use Rattle.rules.specs.Sound.{is_width}
-use Rattle.rules.specs.Invariant.{Unavailable, Blocked, Suited, QueueFits, Facts}
-use Rattle.rules.specs.FactsLaws.{owner_same, next_same, ends_same, still, suited_same}
+use Rattle.rules.specs.Invariant.{Unavailable, Blocked, Queued, QueueFits, Facts}
+use Rattle.rules.specs.FactsLaws.{owner_same, next_same, ends_same, still, queued_same}
 use Rattle.rules.specs.WaiterLaws.{awaited_self}
 
 -- a width is 1 to 8
@@ -81,7 +81,7 @@ module _ (t : Tables) (i : ℕ) (m : List ℕ) where
   blocked_held w b = still t (hands t i m) (λ k o e. (o, e)) (λ k h e. (h, e)) (λ q h. (h, refl, refl)) w b
 
   -- i holds a message, and waits for nothing, or to receive
-  pub facts_hands : i < task_count t → length m ≤ held_words → Suited (hands t i m) i (wait_of t i) → Facts t → Facts (hands t i m)
+  pub facts_hands : i < task_count t → length m ≤ held_words → Queued (hands t i m) i (wait_of t i) → Facts t → Facts (hands t i m)
   facts_hands low fits suits F = record {
     wait_column = F.wait_column;
     outcome_column = F.outcome_column;
@@ -91,13 +91,12 @@ module _ (t : Tables) (i : ℕ) (m : List ℕ) where
     width_column = F.width_column;
     depth_column = F.depth_column;
     message_column = F.message_column;
-    ceiling_column = F.ceiling_column;
     few_tasks = F.few_tasks;
     few_mutexes = F.few_mutexes;
     few_semaphores = F.few_semaphores;
     few_queues = F.few_queues;
     priorities = F.priorities;
-    mutexes_fit = F.mutexes_fit;
+    kinds_in = F.kinds_in;
     waiting = F.waiting;
     blocked = λ j. blocked_held (wait_of t j) (F.blocked j);
     timed = F.timed;
@@ -109,10 +108,9 @@ module _ (t : Tables) (i : ℕ) (m : List ℕ) where
     queues = F.queues;
     placed_in = F.placed_in;
     words = λ j h. elim (ℕ_discrete j i) [ yes p ↦ rw (p, own) (length_held m fits) | no n ↦ rw (other j n) (F.words j h) ];
-    within = F.within;
-    suited = λ j. elim (ℕ_discrete j i) [
+    queued = λ j. elim (ℕ_discrete j i) [
       | yes p ↦ rw p suits
-      | no n ↦ suited_same t (hands t i m) j refl refl (other j n) refl refl (wait_of t j) (F.suited j)
+      | no n ↦ queued_same t (hands t i m) j refl refl (other j n) (wait_of t j) (F.queued j)
     ];
   }
     where
@@ -143,13 +141,12 @@ module _ (t : Tables) (q : ℕ) (ms : List (List ℕ)) where
     width_column = F.width_column;
     depth_column = F.depth_column;
     message_column = same_length ∙ F.message_column;
-    ceiling_column = F.ceiling_column;
     few_tasks = F.few_tasks;
     few_mutexes = F.few_mutexes;
     few_semaphores = F.few_semaphores;
     few_queues = F.few_queues;
     priorities = F.priorities;
-    mutexes_fit = F.mutexes_fit;
+    kinds_in = F.kinds_in;
     waiting = F.waiting;
     blocked = blocks;
     timed = F.timed;
@@ -164,8 +161,7 @@ module _ (t : Tables) (q : ℕ) (ms : List (List ℕ)) where
     ];
     placed_in = F.placed_in;
     words = F.words;
-    within = F.within;
-    suited = λ i. suited_same t (set_messages t q ms) i refl refl refl refl refl (wait_of t i) (F.suited i);
+    queued = λ i. queued_same t (set_messages t q ms) i refl refl refl (wait_of t i) (F.queued i);
   }
 
   -- nobody waits to receive from q, and nobody to send to it where it isn't full

@@ -2,11 +2,11 @@
 use Rattle.std.specs.Prelude.{List, [], ◌∷◌, Bool, true, false, cond, not, ℕ, ◌+◌, ◌*◌, ltb, leb, eqb, length}
 use Rattle.std.proofs.Math.Option.{Option, none, some}
 use Rattle.lists.specs.Test.{◌and◌, ◌or◌, someb, holds}
-use Rattle.rules.specs.Sizes.{max_tasks, max_mutexes, max_semaphores, max_queues, held_words, levels, max_hold, max_ticks, forever}
-use Rattle.rules.specs.Tables.{Awaited, mutex_of, sem_of, room_in, task_count, mutex_count, sem_count, queue_count, owner_of, count_of, maximum_of, width_of, queue_owner_of, messages_of, space_taken, may_own}
+use Rattle.rules.specs.Sizes.{max_tasks, max_mutexes, max_semaphores, max_queues, held_words, levels, kinds, max_hold, max_ticks, forever}
+use Rattle.rules.specs.Tables.{Awaited, mutex_of, sem_of, room_in, task_count, mutex_count, sem_count, queue_count, owner_of, count_of, maximum_of, width_of, queue_owner_of, messages_of, space_taken}
 use Rattle.rules.specs.Levels.{links_of, closes_ring, best_waiter}
 use Rattle.rules.specs.State.{State}
-use Rattle.rules.specs.Sound.{mutexb, is_width, is_depth, existsb}
+use Rattle.rules.specs.Sound.{is_width, is_depth, existsb}
 use Rattle.rules.specs.Effect.{is_full}
 use Rattle.rules.specs.Step.{Step, task, mutex, sem, start, lock, unlock, pend, post, flush, sleep, yield, hold, free, tick, level, outcome, queue, send, receive, word}
 
@@ -60,10 +60,6 @@ no_message s q = eqb (length (messages_of s.tables q)) 0
 abbrev pub caller_owns : State → ℕ → Bool
 caller_owns s m = of_caller s.running (holds (owner_of s.tables m))
 
--- document 02, K4: "a lock by a task whose own priority is a smaller number than c"
-abbrev pub above_ceiling : State → ℕ → Bool
-above_ceiling s m = of_caller s.running (λ r. not (may_own s.tables m r))
-
 -- document 02, K1: "9 owner sending to its own full queue"
 abbrev pub caller_owns_queue : State → ℕ → Bool
 caller_owns_queue s q = of_caller s.running (holds (queue_owner_of s.tables q))
@@ -98,14 +94,12 @@ once_started s rows = (4 when not s.started) ∷ rows
 abbrev pub by_caller : State → List Row → List Row
 by_caller s rows = once_started s ((5 when no_caller s) ∷ rows)
 
--- document 02, K4: "7 for a kind over 2 or a ceiling over 31": what is left of `mutexb` where kind and ceiling belong together, as 14 sees to
--- (RefusalLaws.mutex-range)
 unfoldable pub refusals : State → Step → List Row
 refusals s (task p) = in_set_up s ((7 when leb levels p) ∷ (8 when leb max_tasks (task_count s.tables)) ∷ [])
-refusals s (mutex k c) = in_set_up s ((7 when not (mutexb k c)) ∷ (8 when leb max_mutexes (mutex_count s.tables)) ∷ [])
+refusals s (mutex k) = in_set_up s ((7 when leb kinds k) ∷ (8 when leb max_mutexes (mutex_count s.tables)) ∷ [])
 refusals s (sem count max) = in_set_up s ((7 when eqb max 0 or ltb max count) ∷ (8 when leb max_semaphores (sem_count s.tables)) ∷ [])
 refusals s start = in_set_up s []
-refusals s (lock m t) = by_caller s ((6 when no_such_mutex s m) ∷ (7 when not (is_waiting_time t)) ∷ (9 when caller_owns s m) ∷ (16 when above_ceiling s m)
+refusals s (lock m t) = by_caller s ((6 when no_such_mutex s m) ∷ (7 when not (is_waiting_time t)) ∷ (9 when caller_owns s m)
     ∷ (3 when taken s m and eqb t 0) ∷ (11 when taken s m and held s) ∷ ring_row s (taken s m) (mutex_of m) ∷ [])
 refusals s (unlock m) = by_caller s ((6 when no_such_mutex s m) ∷ (10 when not (caller_owns s m)) ∷ [])
 refusals s (pend k t) = by_caller s ((6 when no_such_sem s k) ∷ (7 when not (is_waiting_time t))
@@ -133,10 +127,9 @@ unfoldable pub first_row : List Row → Option Row
 first_row [] = none
 first_row (r ∷ rs) = cond r.when (some r) (first_row rs)
 
--- "Order where several apply: 14, 15, 4, 5, 6, 7, 8 (full table), 9, 10, 3, 11, 12; then 2 and 13"; document 02, K4: "and 16, after 9"; 14 and 15 come
--- before any row
+-- "Order where several apply: 14, 15, 4, 5, 6, 7, 8 (full table), 9, 10, 3, 11, 12; then 2 and 13"; 14 and 15 come before any row
 abbrev pub table_order : List ℕ
-table_order = 4 ∷ 5 ∷ 6 ∷ 7 ∷ 8 ∷ 9 ∷ 16 ∷ 10 ∷ 3 ∷ 11 ∷ 12 ∷ 2 ∷ 13 ∷ []
+table_order = 4 ∷ 5 ∷ 6 ∷ 7 ∷ 8 ∷ 9 ∷ 10 ∷ 3 ∷ 11 ∷ 12 ∷ 2 ∷ 13 ∷ []
 
 -- the first list is a part of the second, in the second's order
 unfoldable pub in_order : List ℕ → List ℕ → Bool

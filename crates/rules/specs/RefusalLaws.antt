@@ -3,22 +3,21 @@ use Rattle.std.specs.Prelude.{◌≡◌, List, [], ◌∷◌, ◌++◌, map, tru
 use Rattle.std.proofs.Math.Path.{refl}
 use Rattle.std.proofs.Common.{ap, sym, ◌∙◌, inl, inr, arith, length-append, length-drop, take_at, drop_at, eqb-true, eq-eqb, lt-ltb, le-ltb, le-leb}
 use Rattle.std.proofs.Math.Option.{Option, none, some}
-use Rattle.std.proofs.Math.Decide.{ℕ_discrete, dec_lt}
+use Rattle.std.proofs.Math.Decide.{ℕ_discrete}
 use Rattle.std.proofs.lemmas.Bool.{not-false, lt-leb}
-use Rattle.lists.specs.Test.{◌and◌, ◌or◌, someb, holds}
+use Rattle.lists.specs.Test.{◌and◌, holds}
 use Rattle.lists.specs.Count.{eqn, occ}
 use Rattle.lists.specs.Order.{insert_tail}
 use Rattle.lists.specs.TestLaws.{which, clash, by_test, and_l, and_false, none_some, some_same, true_some, holds_true}
 use Rattle.lists.specs.CountLaws.{eqn_at, eqn_other}
-use Rattle.rules.specs.Sizes.{levels, kinds, ceiling_kind}
 use Rattle.rules.specs.Tables.{mutex_of, sem_of, room_in, message_in, task_count, owner_of, messages_of}
-use Rattle.rules.specs.Levels.{ceiling_level, best_waiter}
+use Rattle.rules.specs.Levels.{best_waiter}
 use Rattle.rules.specs.State.{State, placed, level_of}
 use Rattle.rules.specs.Step.{Step, task, mutex, sem, start, lock, unlock, pend, post, flush, sleep, yield, hold, free, tick, level, outcome, queue, send, receive, word}
 use Rattle.rules.specs.Effect.{Effect, done, caller_waits, lock_by, pass_on, pend_by, credit, flush_of, deliver, send_by, take_in, receive_by, tick_of, yield_by, called, effect}
 use Rattle.rules.specs.Settle.{settle, meet, dispatch, finish}
 use Rattle.rules.specs.Refusal.{Row, held, of_caller, taken, no_credit, no_room, no_message, refusals, first_row, table_order, in_order}
-use Rattle.rules.specs.Sound.{mutexb, soundb}
+use Rattle.rules.specs.Sound.{soundb}
 use Rattle.rules.specs.Answer.{Answer, answered, decide, step_sound, standing, stopped, malformed, is_formed, step}
 use Rattle.rules.specs.Log.{log_line, with_room, memory_after, Call, in_room, call}
 use Rattle.rules.specs.Invariant.{Inv}
@@ -26,18 +25,11 @@ use Rattle.rules.specs.SettleLaws.{settled_one}
 use Rattle.rules.specs.StepLaws.{passed, held_runs}
 use Rattle.rules.specs.SoundLaws.{inv_sound}
 
--- document 02, K4: "7 for a kind over 2 or a ceiling over 31": where kind and ceiling belong together, a mutex that doesn't fit is one of these
-pub mutex_range : (k : ℕ) (c : Option ℕ) → is_formed (mutex k c) ≡ true → not (mutexb k c) ≡ (leb kinds k or someb c and leb levels (ceiling_level c))
-unfolding is_formed mutexb someb ceiling_level ◌or◌ ◌and◌
-mutex_range k none f = elim (dec_lt k kinds) [ yes h ↦ rw (lt-ltb k kinds h, lt-leb kinds k h, f) refl | no h ↦ rw (le-ltb k kinds (omega arith), le-leb kinds k (omega arith)) refl ]
-mutex_range k (some c) f = rw (f, lt-leb kinds k (omega (arith, eqb-true k ceiling_kind f)))
-    (elim (dec_lt c levels) [ yes h ↦ rw (lt-ltb c levels h, lt-leb levels c h) refl | no h ↦ rw (le-ltb c levels (omega arith), le-leb levels c (omega arith)) refl ])
-
 -- each step's rows stand in the order of the table
 pub refusals_in_order : (s : State) (x : Step) → in_order (map (λ r. r.number) (refusals s x)) table_order ≡ true
 unfolding in_order refusals
 refusals_in_order s (task p) = refl
-refusals_in_order s (mutex k c) = refl
+refusals_in_order s (mutex k) = refl
 refusals_in_order s (sem count max) = refl
 refusals_in_order s start = refl
 refusals_in_order s (lock m t) = refl
@@ -97,7 +89,7 @@ caller_by P s (some r) f g h = h r
 pub accepted_number : (s : State) (x : Step) → (effect s x).number ≤ 1
 unfolding effect caller_waits lock_by pass_on pend_by credit flush_of tick_of yield_by deliver send_by take_in receive_by
 accepted_number s (task p) = omega arith
-accepted_number s (mutex k c) = omega arith
+accepted_number s (mutex k) = omega arith
 accepted_number s (sem count max) = omega arith
 accepted_number s start = omega arith
 accepted_number s (lock m t) = caller_by (λ e. e.number ≤ 1) s s.running _ (omega arith) (λ r. go r (owner_of s.tables m))
@@ -206,13 +198,13 @@ finish_held s e r run = by_test (λ (z : State). 1 ≤ z.hold → z.running ≡ 
 effect_held : (s : State) (x : Step) → held s ≡ true → first_row (refusals s x) ≡ none → (effect s x).state.running ≡ s.running
 unfolding effect refusals caller_waits lock_by pass_on pend_by credit flush_of tick_of deliver send_by take_in receive_by
 effect_held s (task p) h e = refl
-effect_held s (mutex k c) h e = refl
+effect_held s (mutex k) h e = refl
 effect_held s (sem count max) h e = refl
 effect_held s start h e = refl
 effect_held s (lock m t) h e = caller_by (λ z. z.state.running ≡ s.running) s s.running _ refl (λ r. go r (owner_of s.tables m) refl)
   where
     row : taken s m and held s ≡ false
-    row = (passed _ _ (passed _ _ (passed _ _ (passed _ _ (passed _ _ (passed _ _ (passed _ _ (passed _ _ e).1).1).1).1).1).1).1).0
+    row = (passed _ _ (passed _ _ (passed _ _ (passed _ _ (passed _ _ (passed _ _ (passed _ _ e).1).1).1).1).1).1).0
 
     go : (r : ℕ) (o : Option ℕ) → owner_of s.tables m ≡ o → (lock_by s m t r o).state.running ≡ s.running
     go r none q = refl

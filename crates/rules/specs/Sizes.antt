@@ -31,17 +31,13 @@ held_words = 8
 abbrev pub levels : ℕ
 levels = 32
 
--- "A mutex is plain (kind 0) or inheriting (kind 1)", and document 02, K4: "wants kind 2": the number of kinds
+-- "A mutex is plain (kind 0) or inheriting (kind 1)": the number of kinds
 abbrev pub kinds : ℕ
-kinds = 3
+kinds = 2
 
 -- the kind that lends its waiters' levels to the owner
 abbrev pub inheriting : ℕ
 inheriting = 1
-
--- the kind that has a ceiling and lifts its owner to it
-abbrev pub ceiling_kind : ℕ
-ceiling_kind = 2
 
 -- "The clock counts ticks in 32 bits and goes from 4294967295 to 0": the number of 32-bit numbers
 abbrev pub word_size : ℕ

@@ -5,8 +5,8 @@ use Rattle.lists.specs.Test.{◌and◌, ◌or◌, allb, someb}
 use Rattle.lists.specs.Count.{occ, opt}
 use Rattle.lists.specs.Order.{ascb, tiesb, inside}
 use Rattle.chains.specs.Chain.{endsb}
-use Rattle.rules.specs.Sizes.{max_tasks, max_mutexes, max_semaphores, max_queues, max_depth, held_words, levels, kinds, ceiling_kind, word_size, max_hold, max_ticks, granted, pending, timed_out, flushed}
-use Rattle.rules.specs.Tables.{Awaited, mutex_of, sem_of, room_in, message_in, time, is_sleep, Wait, Tables, task_count, mutex_count, sem_count, queue_count, priority_of, outcome_of, wait_of, words_of, kind_of, ceiling_of, owner_of, count_of, maximum_of, width_of, depth_of, queue_owner_of, messages_of, space_taken, may_own}
+use Rattle.rules.specs.Sizes.{max_tasks, max_mutexes, max_semaphores, max_queues, max_depth, held_words, levels, kinds, word_size, max_hold, max_ticks, granted, pending, timed_out, flushed}
+use Rattle.rules.specs.Tables.{Awaited, mutex_of, sem_of, room_in, message_in, time, is_sleep, Wait, Tables, task_count, mutex_count, sem_count, queue_count, priority_of, outcome_of, wait_of, words_of, kind_of, owner_of, count_of, maximum_of, width_of, depth_of, queue_owner_of, messages_of, space_taken}
 use Rattle.rules.specs.Levels.{next}
 use Rattle.rules.specs.State.{State, level_of}
 
@@ -14,19 +14,14 @@ use Rattle.rules.specs.State.{State, level_of}
 unfoldable pub columnsb : Tables → Bool
 columnsb t = eqb (length t.tasks.waits) (task_count t) and eqb (length t.tasks.outcomes) (task_count t) and eqb (length t.mutexes.kinds) (mutex_count t) and eqb (length t.semaphores.maxima) (sem_count t)
     and eqb (length t.tasks.words) (task_count t) and eqb (length t.queues.widths) (queue_count t) and eqb (length t.queues.depths) (queue_count t)
-    and eqb (length t.queues.messages) (queue_count t) and eqb (length t.mutexes.ceilings) (mutex_count t)
+    and eqb (length t.queues.messages) (queue_count t)
 
 -- "Numbers within the ranges above"
 unfoldable pub sizesb : Tables → Bool
 sizesb t = leb (task_count t) max_tasks and leb (mutex_count t) max_mutexes and leb (sem_count t) max_semaphores and leb (queue_count t) max_queues
 
--- document 02, K4: "kind 2: `mutex 2 c`, with ceiling c from 0 to 31"; the other kinds have no ceiling
-unfoldable pub mutexb : ℕ → Option ℕ → Bool
-mutexb k none = ltb k kinds and not (eqb k ceiling_kind)
-mutexb k (some c) = eqb k ceiling_kind and ltb c levels
-
 unfoldable pub rangesb : Tables → Bool
-rangesb t = allb (task_count t) (λ i. ltb (priority_of t i) levels) and allb (mutex_count t) (λ m. mutexb (kind_of t m) (ceiling_of t m))
+rangesb t = allb (task_count t) (λ i. ltb (priority_of t i) levels) and allb (mutex_count t) (λ m. ltb (kind_of t m) kinds)
 
 -- document 02, K1: "queues of 1, 2, 4 or 8-word messages and depth 1 to 64"
 unfoldable pub is_width : ℕ → Bool
@@ -96,8 +91,7 @@ waitersb t = allb (task_count t) (λ i. blockedb t (wait_of t i))
 unfoldable pub timesb : Tables → Bool
 timesb t = allb (task_count t) (λ i. timedb (wait_of t i))
 
--- document 02, K1: "only the owner waits to receive from an owned queue, and a waiting sender's words past w are 0"; K4: "No owner or waiter of one has an
--- own priority smaller than c, in a sound state too."
+-- document 02, K1: "only the owner waits to receive from an owned queue, and a waiting sender's words past w are 0"
 unfoldable pub is_own : Option ℕ → ℕ → Bool
 is_own none i = true
 is_own (some o) i = eqb o i
@@ -106,18 +100,18 @@ unfoldable pub pastb : ℕ → List ℕ → Bool
 pastb w l = allb held_words (λ n. ltb n w or eqb (get_or l n 0) 0)
 
 unfoldable pub suitsb : Tables → ℕ → Awaited → Bool
-suitsb t i (mutex_of m) = may_own t m i
+suitsb t i (mutex_of m) = true
 suitsb t i (sem_of k) = true
 suitsb t i (room_in q) = pastb (width_of t q) (words_of t i)
 suitsb t i (message_in q) = is_own (queue_owner_of t q) i
 suitsb t i time = true
 
-unfoldable pub suitedb : Tables → ℕ → Option Wait → Bool
-suitedb t i none = true
-suitedb t i (some w) = suitsb t i w.on
+unfoldable pub queuedb : Tables → ℕ → Option Wait → Bool
+queuedb t i none = true
+queuedb t i (some w) = suitsb t i w.on
 
-unfoldable pub waits_suitb : Tables → Bool
-waits_suitb t = allb (task_count t) (λ i. suitedb t i (wait_of t i))
+unfoldable pub queue_waitsb : Tables → Bool
+queue_waitsb t = allb (task_count t) (λ i. queuedb t i (wait_of t i))
 
 -- "owners exist"
 unfoldable pub existsb : ℕ → Option ℕ → Bool
@@ -126,13 +120,6 @@ existsb n (some o) = ltb o n
 
 unfoldable pub ownersb : Tables → Bool
 ownersb t = allb (mutex_count t) (λ m. existsb (task_count t) (owner_of t m)) and allb (queue_count t) (λ q. existsb (task_count t) (queue_owner_of t q))
-
-unfoldable pub owns_rightlyb : Tables → ℕ → Option ℕ → Bool
-owns_rightlyb t m none = true
-owns_rightlyb t m (some o) = may_own t m o
-
-unfoldable pub ceilingsb : Tables → Bool
-ceilingsb t = allb (mutex_count t) (λ m. owns_rightlyb t m (owner_of t m))
 
 -- "no ring of waits"
 unfoldable pub no_ringb : Tables → Bool
@@ -183,7 +170,7 @@ set_upb s = eqb s.clock 0 and eqb s.hold 0 and not (someb s.running) and none_in
 
 -- what holds of the tables in every phase
 unfoldable pub tablesb : Tables → Bool
-tablesb t = columnsb t and sizesb t and rangesb t and waitingb t and waitersb t and timesb t and ownersb t and no_ringb t and countsb t and outcomesb t and queuesb t and wordsb t and waits_suitb t and ceilingsb t
+tablesb t = columnsb t and sizesb t and rangesb t and waitingb t and waitersb t and timesb t and ownersb t and no_ringb t and countsb t and outcomesb t and queuesb t and wordsb t and queue_waitsb t
 
 -- document 01's term "sound state"
 unfoldable pub soundb : State → Bool

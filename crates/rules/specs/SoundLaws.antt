@@ -10,7 +10,7 @@ use native.Mathlib.Omega.{arith}
 use Rattle.std.proofs.Math.Decide.{dec_le, dec_lt}
 use Rattle.std.proofs.Math.Dec.{eqb}
 use Rattle.std.proofs.Math.ListN.{length, get_or, get_or-eq_default}
-use borrow.Author.Tests.{ltb-true, leb-true, eqb-true, eqb-false, not-true, lt-ltb, le-leb, eq-eqb, ne_eqb}
+use borrow.Author.Tests.{ltb-true, leb-true, eqb-true, not-true, lt-ltb, le-leb, eq-eqb}
 use Rattle.lists.specs.Test.{◌and◌, ◌or◌, someb}
 use Rattle.lists.specs.Count.{occ, opt}
 use Rattle.lists.specs.Order.{Asc}
@@ -19,12 +19,12 @@ use Rattle.lists.specs.CountLaws.{occ_head, below_in, below_out}
 use Rattle.lists.specs.OrderLaws.{asc_first, asc_true, true_asc, ties_true, true_ties, inside_true, true_inside}
 use Rattle.chains.specs.Chain.{Chain, end, link, Ends, endsb}
 use Rattle.chains.specs.ChainLaws.{chain_short, ends_true, true_ends}
-use Rattle.rules.specs.Sizes.{max_depth, held_words, levels, kinds, ceiling_kind, max_ticks, granted, pending, timed_out, flushed}
-use Rattle.rules.specs.Tables.{Awaited, mutex_of, sem_of, room_in, message_in, time, is_sleep, Wait, Tables, task_count, mutex_count, sem_count, queue_count, priority_of, outcome_of, wait_of, words_of, kind_of, ceiling_of, owner_of, count_of, width_of, depth_of, queue_owner_of, messages_of, withinb}
+use Rattle.rules.specs.Sizes.{max_depth, held_words, max_ticks, granted, pending, timed_out, flushed}
+use Rattle.rules.specs.Tables.{Awaited, mutex_of, sem_of, room_in, message_in, time, is_sleep, Wait, Tables, task_count, mutex_count, sem_count, queue_count, outcome_of, wait_of, words_of, owner_of, count_of, width_of, depth_of, queue_owner_of, messages_of}
 use Rattle.rules.specs.Levels.{next}
 use Rattle.rules.specs.State.{State, level_of}
-use Rattle.rules.specs.Sound.{columnsb, sizesb, mutexb, rangesb, is_depth, messagesb, queueb, queuesb, wordsb, clockb, wait_count, waitingb, placesb, ascendingb, unavailableb, leftb, blockedb, timedb, waitersb, timesb, is_own, pastb, suitsb, suitedb, waits_suitb, existsb, ownersb, owns_rightlyb, ceilingsb, no_ringb, countsb, outcomeb, outcomesb, none_in, runsb, holdb, urgent_top, urgentb, set_upb, tablesb, soundb}
-use Rattle.rules.specs.Invariant.{Unavailable, Blocked, MutexFits, Within, Suits, Suited, QueueFits, Left, Timed, Outcome, Facts, Places, SetUp, Started, Inv}
+use Rattle.rules.specs.Sound.{columnsb, sizesb, rangesb, is_depth, messagesb, queueb, queuesb, wordsb, clockb, wait_count, waitingb, placesb, ascendingb, unavailableb, leftb, blockedb, timedb, waitersb, timesb, is_own, pastb, suitsb, queuedb, queue_waitsb, existsb, ownersb, no_ringb, countsb, outcomeb, outcomesb, none_in, runsb, holdb, urgent_top, urgentb, set_upb, tablesb, soundb}
+use Rattle.rules.specs.Invariant.{Unavailable, Blocked, Suits, Queued, QueueFits, Left, Timed, Outcome, Facts, Places, SetUp, Started, Inv}
 use Rattle.rules.specs.LevelLaws.{wait_out, next_none, next_ended}
 
 -- each phrase of the tables, read off from its test and put together again
@@ -76,40 +76,9 @@ unfolding is_own
 true_own none i h = refl
 true_own (some k) i h = eq-eqb k i (h k refl)
 
--- kinds and ceilings
-pub mutex_true : (k : ℕ) (c : Option ℕ) → mutexb k c ≡ true → MutexFits k c
-unfolding mutexb
-mutex_true k none e = (ltb-true k kinds (and_l _ _ e), eqb-false k ceiling_kind (not-true _ (and_r _ _ e)))
-mutex_true k (some c) e = (eqb-true k ceiling_kind (and_l _ _ e), ltb-true c levels (and_r _ _ e))
-
-true_mutex : (k : ℕ) (c : Option ℕ) → MutexFits k c → mutexb k c ≡ true
-unfolding mutexb
-true_mutex k none u = true_and _ _ (lt-ltb k kinds u.0) (ap not (ne_eqb k ceiling_kind u.1))
-true_mutex k (some c) u = true_and _ _ (eq-eqb k ceiling_kind u.0) (lt-ltb c levels u.1)
-
-pub within_true : (c : Option ℕ) (p : ℕ) → withinb c p ≡ true → Within c p
-unfolding withinb
-within_true none p e = tt
-within_true (some c) p e = leb-true c p e
-
-pub true_within : (c : Option ℕ) (p : ℕ) → Within c p → withinb c p ≡ true
-unfolding withinb
-true_within none p u = refl
-true_within (some c) p u = le-leb c p u
-
-owns_true : (t : Tables) (m : ℕ) (q : Option ℕ) → owns_rightlyb t m q ≡ true → (o : ℕ) → q ≡ some o → Within (ceiling_of t m) (priority_of t o)
-unfolding owns_rightlyb
-owns_true t m none e o h = none_some refl h
-owns_true t m (some k) e o h = rw (← some_same h) (within_true (ceiling_of t m) (priority_of t k) e)
-
-true_owns : (t : Tables) (m : ℕ) (q : Option ℕ) → ((o : ℕ) → q ≡ some o → Within (ceiling_of t m) (priority_of t o)) → owns_rightlyb t m q ≡ true
-unfolding owns_rightlyb
-true_owns t m none h = refl
-true_owns t m (some k) h = true_within (ceiling_of t m) (priority_of t k) (h k refl)
-
 suits_true : (t : Tables) (i : ℕ) (a : Awaited) → length (words_of t i) ≤ held_words → suitsb t i a ≡ true → Suits t i a
 unfolding suitsb
-suits_true t i (mutex_of m) h e = within_true (ceiling_of t m) (priority_of t i) e
+suits_true t i (mutex_of m) h e = tt
 suits_true t i (sem_of k) h e = tt
 suits_true t i (room_in q) h e = past_true (width_of t q) (words_of t i) h e
 suits_true t i (message_in q) h e = own_true (queue_owner_of t q) i e
@@ -117,21 +86,21 @@ suits_true t i time h e = tt
 
 true_suits : (t : Tables) (i : ℕ) (a : Awaited) → Suits t i a → suitsb t i a ≡ true
 unfolding suitsb
-true_suits t i (mutex_of m) u = true_within (ceiling_of t m) (priority_of t i) u
+true_suits t i (mutex_of m) u = refl
 true_suits t i (sem_of k) u = refl
 true_suits t i (room_in q) u = true_past (width_of t q) (words_of t i) u
 true_suits t i (message_in q) u = true_own (queue_owner_of t q) i u
 true_suits t i time u = refl
 
-suited_true : (t : Tables) (i : ℕ) (o : Option Wait) → length (words_of t i) ≤ held_words → suitedb t i o ≡ true → Suited t i o
-unfolding suitedb
-suited_true t i none h e = tt
-suited_true t i (some w) h e = suits_true t i w.on h e
+queued_true : (t : Tables) (i : ℕ) (o : Option Wait) → length (words_of t i) ≤ held_words → queuedb t i o ≡ true → Queued t i o
+unfolding queuedb
+queued_true t i none h e = tt
+queued_true t i (some w) h e = suits_true t i w.on h e
 
-true_suited : (t : Tables) (i : ℕ) (o : Option Wait) → Suited t i o → suitedb t i o ≡ true
-unfolding suitedb
-true_suited t i none u = refl
-true_suited t i (some w) u = true_suits t i w.on u
+true_queued : (t : Tables) (i : ℕ) (o : Option Wait) → Queued t i o → queuedb t i o ≡ true
+unfolding queuedb
+true_queued t i none u = refl
+true_queued t i (some w) u = true_suits t i w.on u
 
 pub depth_true : (d : ℕ) → is_depth d ≡ true → (1 ≤ d) × (d ≤ max_depth)
 unfolding is_depth
@@ -222,9 +191,9 @@ module _ (t : Tables) where
   ]
 
   facts_of : columnsb t ≡ true → sizesb t ≡ true → rangesb t ≡ true → waitingb t ≡ true → waitersb t ≡ true → timesb t ≡ true → ownersb t ≡ true
-      → no_ringb t ≡ true → countsb t ≡ true → outcomesb t ≡ true → queuesb t ≡ true → wordsb t ≡ true → waits_suitb t ≡ true → ceilingsb t ≡ true → Facts t
-  unfolding columnsb sizesb rangesb waitingb wait_count waitersb timesb no_ringb countsb outcomesb queuesb wordsb waits_suitb ceilingsb
-  facts_of columns sizes ranges waiting waiters times owners rings counts outcomes queues words suited ceilings = record {
+      → no_ringb t ≡ true → countsb t ≡ true → outcomesb t ≡ true → queuesb t ≡ true → wordsb t ≡ true → queue_waitsb t ≡ true → Facts t
+  unfolding columnsb sizesb rangesb waitingb wait_count waitersb timesb no_ringb countsb outcomesb queuesb wordsb queue_waitsb
+  facts_of columns sizes ranges waiting waiters times owners rings counts outcomes queues words queued = record {
     wait_column = column;
     outcome_column = eqb-true _ _ (and_l _ _ (and_r _ _ columns));
     kind_column = eqb-true _ _ (and_l _ _ (and_r _ _ (and_r _ _ columns)));
@@ -232,14 +201,13 @@ module _ (t : Tables) where
     word_column = eqb-true _ _ (and_l _ _ behind);
     width_column = eqb-true _ _ (and_l _ _ (and_r _ _ behind));
     depth_column = eqb-true _ _ (and_l _ _ (and_r _ _ (and_r _ _ behind)));
-    message_column = eqb-true _ _ (and_l _ _ (and_r _ _ (and_r _ _ (and_r _ _ behind))));
-    ceiling_column = eqb-true _ _ (and_r _ _ (and_r _ _ (and_r _ _ (and_r _ _ behind))));
+    message_column = eqb-true _ _ (and_r _ _ (and_r _ _ (and_r _ _ behind)));
     few_tasks = leb-true _ _ (and_l _ _ sizes);
     few_mutexes = leb-true _ _ (and_l _ _ (and_r _ _ sizes));
     few_semaphores = leb-true _ _ (and_l _ _ (and_r _ _ (and_r _ _ sizes)));
     few_queues = leb-true _ _ (and_r _ _ (and_r _ _ (and_r _ _ sizes)));
     priorities = λ i h. ltb-true _ _ (all_true (task_count t) _ (and_l _ _ ranges) i h);
-    mutexes_fit = λ m h. mutex_true (kind_of t m) (ceiling_of t m) (all_true (mutex_count t) _ (and_r _ _ ranges) m h);
+    kinds_in = λ m h. ltb-true _ _ (all_true (mutex_count t) _ (and_r _ _ ranges) m h);
     waiting = λ i. elim (dec_lt i (task_count t)) [
       | yes h ↦ eqb-true _ _ (all_true (task_count t) _ (and_r _ _ waiting) i h)
       | no h ↦ inside_true (task_count t) t.tasks.waiting (and_l _ _ waiting) i (omega arith) ∙ sym (ap wait_count (out i (omega arith)))
@@ -260,18 +228,13 @@ module _ (t : Tables) where
     queues = λ q h. fits_true t q (all_true (queue_count t) _ (and_l _ _ queues) q h);
     placed_in = leb-true _ _ (and_r _ _ queues);
     words = eight;
-    within = λ m o e. elim (dec_lt m (mutex_count t)) [
-      | yes h ↦ owns_true t m (owner_of t m) (all_true (mutex_count t) _ ceilings m h) o e
-      | no h ↦ none_some (get_or-eq_default t.mutexes.owners none (omega arith)) e
-    ];
-    suited = λ i. elim (dec_lt i (task_count t)) [
-      | yes h ↦ suited_true t i (wait_of t i) (omega (arith, eight i h)) (all_true (task_count t) _ suited i h)
+    queued = λ i. elim (dec_lt i (task_count t)) [
+      | yes h ↦ queued_true t i (wait_of t i) (omega (arith, eight i h)) (all_true (task_count t) _ queued i h)
       | no h ↦ rw (out i (omega arith)) tt
     ];
   }
     where
-      behind : eqb (length t.tasks.words) (task_count t) and eqb (length t.queues.widths) (queue_count t) and eqb (length t.queues.depths) (queue_count t) and eqb (length t.queues.messages) (queue_count t)
-          and eqb (length t.mutexes.ceilings) (mutex_count t) ≡ true
+      behind : eqb (length t.tasks.words) (task_count t) and eqb (length t.queues.widths) (queue_count t) and eqb (length t.queues.depths) (queue_count t) and eqb (length t.queues.messages) (queue_count t) ≡ true
       behind = and_r _ _ (and_r _ _ (and_r _ _ (and_r _ _ columns)))
 
       eight : (i : ℕ) → i < task_count t → length (words_of t i) ≡ held_words
@@ -303,9 +266,8 @@ module _ (t : Tables) where
       let e₉ = and_r _ _ e₈ in
       let f₀ = and_r _ _ e₉ in
       let f₁ = and_r _ _ f₀ in
-      let f₂ = and_r _ _ f₁ in
       facts_of (and_l _ _ e₀) (and_l _ _ e₁) (and_l _ _ e₂) (and_l _ _ e₃) (and_l _ _ e₄) (and_l _ _ e₅) (and_l _ _ e₆) (and_l _ _ e₇) (and_l _ _ e₈)
-      (and_l _ _ e₉) (and_l _ _ f₀) (and_l _ _ f₁) (and_l _ _ f₂) (and_r _ _ f₂)
+      (and_l _ _ e₉) (and_l _ _ f₀) (and_l _ _ f₁) (and_r _ _ f₁)
 
   -- nobody waits but tasks
   none_outside : Facts t → (i : ℕ) → task_count t ≤ i → occ i t.tasks.waiting ≡ 0
@@ -313,12 +275,12 @@ module _ (t : Tables) where
   none_outside F i h = F.waiting i ∙ ap wait_count (wait_out t F.wait_column i h)
 
   pub facts_tables : Facts t → tablesb t ≡ true
-  unfolding tablesb columnsb sizesb rangesb waitingb waitersb timesb ownersb no_ringb countsb outcomesb queuesb wordsb waits_suitb ceilingsb
+  unfolding tablesb columnsb sizesb rangesb waitingb waitersb timesb ownersb no_ringb countsb outcomesb queuesb wordsb queue_waitsb
   facts_tables F =
       true_and _ _ (true_and _ _ (eq-eqb _ _ F.wait_column) (true_and _ _ (eq-eqb _ _ F.outcome_column) (true_and _ _ (eq-eqb _ _ F.kind_column) (true_and _ _ (eq-eqb _ _ F.maximum_column)
-      (true_and _ _ (eq-eqb _ _ F.word_column) (true_and _ _ (eq-eqb _ _ F.width_column) (true_and _ _ (eq-eqb _ _ F.depth_column) (true_and _ _ (eq-eqb _ _ F.message_column) (eq-eqb _ _ F.ceiling_column)))))))))
+      (true_and _ _ (eq-eqb _ _ F.word_column) (true_and _ _ (eq-eqb _ _ F.width_column) (true_and _ _ (eq-eqb _ _ F.depth_column) (eq-eqb _ _ F.message_column))))))))
       (true_and _ _ (true_and _ _ (le-leb _ _ F.few_tasks) (true_and _ _ (le-leb _ _ F.few_mutexes) (true_and _ _ (le-leb _ _ F.few_semaphores) (le-leb _ _ F.few_queues))))
-      (true_and _ _ (true_and _ _ (true_all (task_count t) _ (λ i h. lt-ltb _ _ (F.priorities i h))) (true_all (mutex_count t) _ (λ m h. true_mutex (kind_of t m) (ceiling_of t m) (F.mutexes_fit m h))))
+      (true_and _ _ (true_and _ _ (true_all (task_count t) _ (λ i h. lt-ltb _ _ (F.priorities i h))) (true_all (mutex_count t) _ (λ m h. lt-ltb _ _ (F.kinds_in m h))))
       (true_and _ _ (true_and _ _ (true_inside (task_count t) t.tasks.waiting (none_outside F)) (true_all (task_count t) _ (λ i h. eq-eqb _ _ (F.waiting i))))
       (true_and _ _ (true_all (task_count t) _ (λ i h. true_blocked t (wait_of t i) (F.blocked i)))
       (true_and _ _ (true_all (task_count t) _ (λ i h. true_timed (wait_of t i) (F.timed i)))
@@ -329,8 +291,7 @@ module _ (t : Tables) where
       (true_and _ _ (true_all (task_count t) _ (λ i h. true_outcome (wait_of t i) (outcome_of t i) (F.outcomes i h)))
       (true_and _ _ (true_and _ _ (true_all (queue_count t) _ (λ q h. true_fits t q (F.queues q h))) (le-leb _ _ F.placed_in))
       (true_and _ _ (true_all (task_count t) _ (λ i h. eq-eqb _ _ (F.words i h)))
-      (true_and _ _ (true_all (task_count t) _ (λ i h. true_suited t i (wait_of t i) (F.suited i)))
-      (true_all (mutex_count t) _ (λ m h. true_owns t m (owner_of t m) (F.within m)))))))))))))))
+      (true_all (task_count t) _ (λ i h. true_queued t i (wait_of t i) (F.queued i))))))))))))))
     where
       rest : (i : ℕ) {l : List ℕ} → Chain (next t) (some i) l → endsb (task_count t) (next t) (next t i) ≡ true
       rest i (link c) = true_ends c (task_count t) (chain_short (task_count t) (next_ended t F).to c ((next_ended t F).to i))

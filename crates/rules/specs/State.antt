@@ -19,7 +19,7 @@ unfoldable pub fresh : ℕ → State
 fresh space = record {
   tables = record {
     tasks = record { priorities = []; outcomes = []; waits = []; words = []; waiting = [] };
-    mutexes = record { kinds = []; ceilings = []; owners = [] };
+    mutexes = record { kinds = []; owners = [] };
     semaphores = record { counts = []; maxima = [] };
     queues = record { widths = []; depths = []; owners = []; messages = []; space = space };
   };

@@ -3,10 +3,8 @@ use Rattle.std.specs.Prelude.{List, ℕ}
 use Rattle.std.proofs.Math.Option.{Option}
 
 pub data Step : Type 0 where
-  -- task p
-  task : ℕ → Step
-  -- mutex k; document 02, K4: mutex 2 c
-  mutex : ℕ → Option ℕ → Step
+  -- task p, mutex k
+  task mutex : ℕ → Step
   -- sem count max
   sem : ℕ → ℕ → Step
   start : Step

@@ -14,24 +14,24 @@ use Rattle.lists.specs.Order.{keep, Ties}
 use Rattle.lists.specs.TestLaws.{which, clash, by_test, and_l, and_r, and_false, or_true, or_none, none_some, some_same, some_true, true_some, holds_true}
 use Rattle.lists.specs.CountLaws.{occ_append, occ_opt, below_out, in_below, below_le}
 use Rattle.chains.specs.Chain.{end, link}
-use Rattle.rules.specs.Sizes.{max_tasks, max_mutexes, max_semaphores, max_queues, levels, word_size, max_hold, max_ticks, forever, granted, flushed}
-use Rattle.rules.specs.Tables.{Awaited, mutex_of, sem_of, room_in, message_in, time, awaited_kind, is_sleep, Wait, Tables, task_count, mutex_count, sem_count, queue_count, priority_of, outcome_of, wait_of, words_of, ceiling_of, owner_of, count_of, maximum_of, width_of, depth_of, queue_owner_of, messages_of, taken_by, space_taken, ticks_of, wait_for, may_own}
+use Rattle.rules.specs.Sizes.{max_tasks, max_mutexes, max_semaphores, max_queues, levels, kinds, word_size, max_hold, max_ticks, forever, granted, flushed}
+use Rattle.rules.specs.Tables.{Awaited, mutex_of, sem_of, room_in, message_in, time, awaited_kind, is_sleep, Wait, Tables, task_count, mutex_count, sem_count, queue_count, outcome_of, wait_of, words_of, owner_of, count_of, maximum_of, width_of, depth_of, queue_owner_of, messages_of, taken_by, space_taken, ticks_of, wait_for}
 use Rattle.rules.specs.Levels.{owner_awaited, of_wait, next, links_of, closes_ring, awaits, best_waiter}
 use Rattle.rules.specs.State.{State, fresh, with_tables, with_started, with_clock, with_hold, level_of}
 use Rattle.rules.specs.Step.{Step, task, mutex, sem, start, lock, unlock, pend, post, flush, sleep, yield, hold, free, tick, level, outcome, queue, send, receive, word}
 use Rattle.rules.specs.Effect.{Effect, done, give, set_count, set_messages, hands, end_waits, ended, caller_waits, lock_by, pass_on, pend_by, credit, flush_of, is_full, deliver, send_by, sent_by, take_in, receive_by, is_due, due, outcome_due, age_all, tick_of, yield_by, called, effect}
 use Rattle.rules.specs.Settle.{settle, finish}
-use Rattle.rules.specs.Refusal.{Row, is_waiting_time, is_sleep_time, held, of_caller, above_ceiling, taken, no_credit, no_room, may_receive, no_such_mutex, no_such_sem, no_such_queue, refusals, first_row}
-use Rattle.rules.specs.Sound.{wait_count, mutexb, is_width, is_depth}
+use Rattle.rules.specs.Refusal.{Row, is_waiting_time, is_sleep_time, held, of_caller, taken, no_credit, no_room, may_receive, no_such_mutex, no_such_sem, no_such_queue, refusals, first_row}
+use Rattle.rules.specs.Sound.{wait_count, is_width, is_depth}
 use Rattle.rules.specs.Answer.{decide, step_sound}
-use Rattle.rules.specs.Invariant.{Unavailable, Within, Suits, Left, Facts, HoldRuns, SetUp, Started, Inv}
+use Rattle.rules.specs.Invariant.{Unavailable, Suits, Left, Facts, HoldRuns, SetUp, Started, Inv}
 use Rattle.rules.specs.LevelLaws.{ring_none}
 use Rattle.rules.specs.FactsLaws.{facts_give, facts_free, facts_begin, wait_ended, facts_end, facts_count, facts_age}
 use Rattle.rules.specs.QueueLaws.{chain_held}
 use Rattle.rules.specs.MessageLaws.{held_facts, held_suits, sent_facts, handed_facts, took_facts, swapped_facts}
-use Rattle.rules.specs.SoundLaws.{mutex_true, within_true, depth_true, exists_true}
+use Rattle.rules.specs.SoundLaws.{depth_true, exists_true}
 use Rattle.rules.specs.SettleLaws.{settled_same, finish_inv}
-use Rattle.rules.specs.WaiterLaws.{wait_none, awaits_waits, awaited_blocked, awaited_suits, not_due, outcome_due_lem, wait_in_lem, best_waits, nobody_best, places_end}
+use Rattle.rules.specs.WaiterLaws.{wait_none, awaits_waits, awaited_blocked, not_due, outcome_due_lem, wait_in_lem, best_waits, nobody_best, places_end}
 use Rattle.rules.specs.CreationLaws.{mutex_inv, sem_inv, queue_inv, task_inv}
 
 -- where no row applies, the first does not, and none of those after it
@@ -130,12 +130,12 @@ module _ (s : State) (I : Inv s) where
     wait_inv = wait_with_lem s.tables I.facts refl refl refl
 
     lock_inv : (r m t : ℕ) (o : Option ℕ) → s.running ≡ some r → owner_of s.tables m ≡ o → no_such_mutex s m ≡ false → is_waiting_time t ≡ true
-        → Within (ceiling_of s.tables m) (priority_of s.tables r) → someb o and eqb t 0 ≡ false → someb o and held s ≡ false → someb o and closes_ring s.tables r (mutex_of m) ≡ false → Keeps (lock_by s m t r o)
+        → someb o and eqb t 0 ≡ false → someb o and held s ≡ false → someb o and closes_ring s.tables r (mutex_of m) ≡ false → Keeps (lock_by s m t r o)
     unfolding lock_by someb ◌and◌ awaited_kind
-    lock_inv r m t none run e there valid under now unheld ring = tables_inv (give s.tables m (some r))
-        (facts_give s.tables m r (leb-false (mutex_count s.tables) m there) (caller_in r run) (caller_idle r run) under I.facts) refl refl
-    lock_inv r m t (some o) run e there valid under now unheld ring =
-        wait_inv r (mutex_of m) t (links_of s.tables r (mutex_of m)) run unheld (o, e) under (left_wait (mutex_of m) t refl valid now) ring
+    lock_inv r m t none run e there valid now unheld ring = tables_inv (give s.tables m (some r))
+        (facts_give s.tables m r (leb-false (mutex_count s.tables) m there) (caller_in r run) (caller_idle r run) I.facts) refl refl
+    lock_inv r m t (some o) run e there valid now unheld ring =
+        wait_inv r (mutex_of m) t (links_of s.tables r (mutex_of m)) run unheld (o, e) tt (left_wait (mutex_of m) t refl valid now) ring
 
     unlock_inv : (m : ℕ) (o : Option ℕ) → best_waiter s.tables (mutex_of m) ≡ o → no_such_mutex s m ≡ false → Keeps (pass_on s m o)
     unfolding pass_on
@@ -143,17 +143,13 @@ module _ (s : State) (I : Inv s) where
         (facts_free s.tables m (nobody_best s.tables I.facts (mutex_of m) e) I.facts) refl refl
     unlock_inv m (some w) e there =
         end_inv (give t m (some w)) (eqb w) s.clock (facts_give t m w (leb-false (mutex_count s.tables) m there) inside gone
-        (awaited_suits s.tables w (mutex_of m) (wait_of s.tables w) (I.facts.suited w) best)
         (facts_end s.tables (eqb w) (λ i. granted) (λ i q. inl refl) I.facts)) I.clock_in refl refl
       where
         t : Tables
         t = end_waits s.tables (eqb w) (λ i. granted)
 
-        best : awaits s.tables (mutex_of m) w ≡ true
-        best = best_waits s.tables I.facts (mutex_of m) w e
-
         inside : w < task_count s.tables
-        inside = wait_in_lem s.tables I.facts w (omega (arith, awaits_waits (wait_of s.tables w) (mutex_of m) best))
+        inside = wait_in_lem s.tables I.facts w (omega (arith, awaits_waits (wait_of s.tables w) (mutex_of m) (best_waits s.tables I.facts (mutex_of m) w e)))
 
         gone : wait_of t w ≡ none
         gone = wait_ended s.tables (eqb w) (λ i. granted) w ∙ rw (eq-eqb w w refl) refl
@@ -256,10 +252,6 @@ pub of_caller_lem : (o : Option ℕ) (p : ℕ → Bool) (r : ℕ) → o ≡ some
 unfolding of_caller
 of_caller_lem o p r e = rw e refl
 
--- a caller that isn't refused as 16 may own the mutex
-pub within_caller : (s : State) (m r : ℕ) → s.running ≡ some r → above_ceiling s m ≡ false → Within (ceiling_of s.tables m) (priority_of s.tables r)
-within_caller s m r run e = within_true (ceiling_of s.tables m) (priority_of s.tables r) (not-false (may_own s.tables m r) (sym (of_caller_lem s.running (λ q. not (may_own s.tables m q)) r run) ∙ e))
-
 -- "the only task that may receive"
 pub may_receive_lem : (s : State) (q r : ℕ) → s.running ≡ some r → may_receive s q ≡ true → (o : ℕ) → queue_owner_of s.tables q ≡ some o → o ≡ r
 may_receive_lem s q r run e o own = elim (or_true _ _ e) [
@@ -275,11 +267,11 @@ module _ (s : State) (I : Inv s) where
       let b = passed _ _ a.1 in
       let c = passed _ _ b.1 in
       task_inv s I a.0 p _ (leb-false levels p b.0) (leb-false max_tasks (task_count s.tables) c.0)
-  accept_inv (mutex k q) e =
+  accept_inv (mutex k) e =
       let a = passed _ _ e in
       let b = passed _ _ a.1 in
       let c = passed _ _ b.1 in
-      mutex_inv s I a.0 k q _ (mutex_true k q (not-false (mutexb k q) b.0)) (leb-false max_mutexes (mutex_count s.tables) c.0)
+      mutex_inv s I a.0 k _ (leb-false kinds k b.0) (leb-false max_mutexes (mutex_count s.tables) c.0)
   accept_inv (sem count max) e =
       let a = passed _ _ e in
       let b = passed _ _ a.1 in
@@ -297,10 +289,9 @@ module _ (s : State) (I : Inv s) where
       let g = passed _ _ f.1 in
       let h = passed _ _ g.1 in
       let k = passed _ _ h.1 in
-      let l = passed _ _ k.1 in
       called_by_lem (λ y. Inv (finish s y)) s s.running (λ r. lock_by s m t r (owner_of s.tables m)) b.0 (λ r run.
-      lock_inv s I a.0 r m t (owner_of s.tables m) run refl c.0 (not-false (is_waiting_time t) d.0) (within_caller s m r run g.0) h.0 k.0
-      (ap (λ z. taken s m and z) (sym (of_caller_lem s.running (λ q. closes_ring s.tables q (mutex_of m)) r run)) ∙ l.0))
+      lock_inv s I a.0 r m t (owner_of s.tables m) run refl c.0 (not-false (is_waiting_time t) d.0) g.0 h.0
+      (ap (λ z. taken s m and z) (sym (of_caller_lem s.running (λ q. closes_ring s.tables q (mutex_of m)) r run)) ∙ k.0))
   accept_inv (unlock m) e =
       let a = passed _ _ e in
       let b = passed _ _ a.1 in
@@ -403,13 +394,12 @@ fresh_inv space = record {
     width_column = refl;
     depth_column = refl;
     message_column = refl;
-    ceiling_column = refl;
     few_tasks = omega arith;
     few_mutexes = omega arith;
     few_semaphores = omega arith;
     few_queues = omega arith;
     priorities = λ i h. absurd (omega arith);
-    mutexes_fit = λ m h. absurd (omega arith);
+    kinds_in = λ m h. absurd (omega arith);
     waiting = λ i. refl;
     blocked = λ i. tt;
     timed = λ i. tt;
@@ -421,8 +411,7 @@ fresh_inv space = record {
     queues = λ q h. absurd (omega arith);
     placed_in = omega arith;
     words = λ i h. absurd (omega arith);
-    within = λ m o e. none_some refl e;
-    suited = λ i. tt;
+    queued = λ i. tt;
   };
   clock_in = omega arith;
   hold_in = omega arith;

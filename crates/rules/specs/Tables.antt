@@ -1,5 +1,5 @@
 -- "The parts of a state": the tables of tasks, mutexes, semaphores and message queues, and the order of the waits.
-use Rattle.std.specs.Prelude.{List, [], Bool, true, cond, ℕ, zero, suc, ◌+◌, ◌*◌, leb, eqb, length, get_or}
+use Rattle.std.specs.Prelude.{List, [], Bool, cond, ℕ, zero, suc, ◌+◌, ◌*◌, eqb, length, get_or}
 use Rattle.std.proofs.Math.Option.{Option, none, some}
 use Rattle.rules.specs.Sizes.{forever, on_mutex, on_semaphore, on_time, on_send, on_receive}
 
@@ -52,8 +52,6 @@ pub record TaskTable : Type 0 where
 
 pub record MutexTable : Type 0 where
   pub kinds : List ℕ
-  -- document 02, K4: "with ceiling c from 0 to 31"; a mutex of another kind has none
-  pub ceilings : List (Option ℕ)
   pub owners : List (Option ℕ)
 
 pub record SemTable : Type 0 where
@@ -121,9 +119,6 @@ words_of t i = get_or t.tasks.words i []
 abbrev pub kind_of : Tables → ℕ → ℕ
 kind_of t m = get_or t.mutexes.kinds m 0
 
-abbrev pub ceiling_of : Tables → ℕ → Option ℕ
-ceiling_of t m = get_or t.mutexes.ceilings m none
-
 abbrev pub owner_of : Tables → ℕ → Option ℕ
 owner_of t m = get_or t.mutexes.owners m none
 
@@ -153,12 +148,3 @@ taken_by ws ds (suc n) = taken_by ws ds n + get_or ws n 0 * get_or ds n 0
 -- those that all of them take
 abbrev pub space_taken : Tables → ℕ
 space_taken t = taken_by t.queues.widths t.queues.depths (queue_count t)
-
--- an own priority that is no smaller number than the ceiling; any is where there is no ceiling
-unfoldable pub withinb : Option ℕ → ℕ → Bool
-withinb none p = true
-withinb (some c) p = leb c p
-
--- document 02, K4: "No owner or waiter of one has an own priority smaller than c": i may own and await m
-abbrev pub may_own : Tables → ℕ → ℕ → Bool
-may_own t m i = withinb (ceiling_of t m) (priority_of t i)

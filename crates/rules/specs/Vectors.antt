@@ -1,4 +1,4 @@
--- Document 01's whole session, RK0's nested locks, two sessions with queues, two with tasks woken together and three with ceilings, computed by the rules from script to log: one table with one claim.
+-- Document 01's whole session, RK0's nested locks, two sessions with queues and two with tasks woken together, computed by the rules from script to log: one table with one claim.
 use Rattle.std.specs.Prelude.{◌≡◌, refl, List, [], ◌∷◌, ◌++◌, map, ℕ, replicate}
 use Rattle.std.proofs.Math.Option.{Option, none, some}
 use Rattle.lists.specs.Test.{◌and◌, ◌or◌, allb, someb, holds}
@@ -7,14 +7,14 @@ use Rattle.lists.specs.Order.{keep, range, by_id, place, insert_tail, insert_hea
 use Rattle.lists.specs.Table.{edit, pad}
 use Rattle.chains.specs.Chain.{walk, endsb}
 use Rattle.chains.specs.Least.{least, leads_to, least_leading}
-use Rattle.rules.specs.Tables.{awaited_kind, awaited_object, ticks_of, taken_by, withinb}
-use Rattle.rules.specs.Levels.{owner_awaited, heir_awaited, of_wait, next, lends, ceiling_level, under_ceilings, own_level, level_in, chain_of, same_awaited, wait_is_for, waiters_of, best_waiter}
+use Rattle.rules.specs.Tables.{awaited_kind, awaited_object, ticks_of, taken_by}
+use Rattle.rules.specs.Levels.{owner_awaited, heir_awaited, of_wait, next, lends, level_in, chain_of, same_awaited, wait_is_for, waiters_of, best_waiter}
 use Rattle.rules.specs.State.{State, fresh}
 use Rattle.rules.specs.Step.{Step, task, mutex, sem, start, lock, unlock, pend, flush, sleep, yield, hold, free, tick, level, outcome, queue, send, receive, word}
 use Rattle.rules.specs.Effect.{held_for, caller_waits, lock_by, pass_on, pend_by, credit, flush_of, deliver, send_by, take_in, receive_by, is_due, outcome_due, less_one, age, tick_of, yield_by, called, effect}
 use Rattle.rules.specs.Settle.{settled_ready, meet, dispatch, finish}
 use Rattle.rules.specs.Refusal.{of_caller, links_for, refusals, first_row}
-use Rattle.rules.specs.Sound.{columnsb, sizesb, mutexb, rangesb, is_width, is_depth, messagesb, queueb, queuesb, wordsb, clockb, wait_count, waitingb, placesb, ascendingb, unavailableb, leftb, blockedb, timedb, waitersb, timesb, is_own, pastb, suitsb, suitedb, waits_suitb, existsb, ownersb, owns_rightlyb, ceilingsb, no_ringb, countsb, outcomeb, outcomesb, none_in, runsb, holdb, urgent_top, urgentb, set_upb, tablesb, soundb}
+use Rattle.rules.specs.Sound.{columnsb, sizesb, rangesb, is_width, is_depth, messagesb, queueb, queuesb, wordsb, clockb, wait_count, waitingb, placesb, ascendingb, unavailableb, leftb, blockedb, timedb, waitersb, timesb, is_own, pastb, suitsb, queuedb, queue_waitsb, existsb, ownersb, no_ringb, countsb, outcomeb, outcomesb, none_in, runsb, holdb, urgent_top, urgentb, set_upb, tablesb, soundb}
 use Rattle.rules.specs.Answer.{decide, step_sound, standing, malformed, is_formed, step}
 
 -- "one line for each script line: answer, value, running task or `-`"
@@ -44,7 +44,7 @@ session =
     line (task 5) 0 0 none ∷
     line (task 3) 0 1 none ∷
     line (task 1) 0 2 none ∷
-    line (mutex 1 none) 0 0 none ∷
+    line (mutex 1) 0 0 none ∷
     line start 0 0 (some 2) ∷
     line (sleep 3) 1 0 (some 1) ∷
     line (sleep 2) 1 0 (some 0) ∷
@@ -64,8 +64,8 @@ nested_locks =
     line (task 1) 0 0 none ∷
     line (task 2) 0 1 none ∷
     line (task 3) 0 2 none ∷
-    line (mutex 1 none) 0 0 none ∷
-    line (mutex 1 none) 0 1 none ∷
+    line (mutex 1) 0 0 none ∷
+    line (mutex 1) 0 1 none ∷
     line start 0 0 (some 0) ∷
     line (sleep 2) 1 0 (some 1) ∷
     line (sleep 1) 1 0 (some 2) ∷
@@ -133,7 +133,7 @@ mixed_chain =
     line (task 9) 0 0 none ∷
     line (task 5) 0 1 none ∷
     line (task 2) 0 2 none ∷
-    line (mutex 1 none) 0 0 none ∷
+    line (mutex 1) 0 0 none ∷
     line (queue 1 1 (some 0)) 0 0 none ∷
     line start 0 0 (some 2) ∷
     line (sleep 2) 1 0 (some 1) ∷
@@ -206,99 +206,20 @@ woken_by_flush =
     line (pend 0 0) 3 0 (some 0) ∷
     []
 
--- document 02, K4: a ceiling that is lent on through an inheriting mutex and an owned queue, and falls with the wait that lent it
-ceiling_lent_on : List Line
-ceiling_lent_on =
-    line (task 30) 0 0 none ∷
-    line (task 25) 0 1 none ∷
-    line (task 20) 0 2 none ∷
-    line (mutex 1 none) 0 0 none ∷
-    line (mutex 2 (some 3)) 0 1 none ∷
-    line (queue 1 1 (some 0)) 0 0 none ∷
-    line start 0 0 (some 2) ∷
-    line (sleep 2) 1 0 (some 1) ∷
-    line (sleep 1) 1 0 (some 0) ∷
-    line (send 0 0 (1 ∷ [])) 0 0 (some 0) ∷
-    line tick 0 0 (some 1) ∷
-    line (lock 0 0) 0 0 (some 1) ∷
-    line (send 0 4294967295 (5 ∷ [])) 1 1 (some 0) ∷
-    line (level 0) 0 25 (some 0) ∷
-    line tick 0 0 (some 2) ∷
-    line (lock 1 0) 0 0 (some 2) ∷
-    line (level 2) 0 3 (some 2) ∷
-    line (lock 0 2) 1 2 (some 0) ∷
-    line (level 1) 0 3 (some 0) ∷
-    line (level 0) 0 3 (some 0) ∷
-    line tick 0 0 (some 0) ∷
-    line tick 0 0 (some 2) ∷
-    line (outcome 2) 0 20 (some 2) ∷
-    line (level 2) 0 3 (some 2) ∷
-    line (level 1) 0 25 (some 2) ∷
-    line (level 0) 0 25 (some 2) ∷
-    line (unlock 1) 0 0 (some 2) ∷
-    line (level 2) 0 20 (some 2) ∷
-    []
-
--- a ceiling mutex that is handed over: the one that gets it enters at the tail of its new level
-ceiling_handed_over : List Line
-ceiling_handed_over =
-    line (task 9) 0 0 none ∷
-    line (task 9) 0 1 none ∷
-    line (task 5) 0 2 none ∷
-    line (mutex 2 (some 5)) 0 0 none ∷
-    line start 0 0 (some 2) ∷
-    line (sleep 3) 1 0 (some 0) ∷
-    line (lock 0 0) 0 0 (some 0) ∷
-    line (sleep 1) 1 0 (some 1) ∷
-    line (lock 0 9) 1 1 none ∷
-    line (level 1) 0 9 none ∷
-    line tick 0 0 (some 0) ∷
-    line tick 0 0 (some 0) ∷
-    line tick 0 0 (some 0) ∷
-    line (unlock 0) 0 0 (some 2) ∷
-    line (level 0) 0 9 (some 2) ∷
-    line (level 1) 0 5 (some 2) ∷
-    line (sleep 1) 1 0 (some 1) ∷
-    line (unlock 0) 0 0 (some 1) ∷
-    line yield 0 0 (some 0) ∷
-    []
-
--- "a lock by a task whose own priority is a smaller number than c": task 0, lifted above the ceiling by task 1, takes the mutex, and task 1 may not
-ceiling_by_own_priority : List Line
-ceiling_by_own_priority =
-    line (task 9) 0 0 none ∷
-    line (task 1) 0 1 none ∷
-    line (mutex 1 none) 0 0 none ∷
-    line (mutex 2 (some 5)) 0 1 none ∷
-    line start 0 0 (some 1) ∷
-    line (sleep 1) 1 0 (some 0) ∷
-    line (lock 0 0) 0 0 (some 0) ∷
-    line tick 0 0 (some 1) ∷
-    line (lock 0 9) 1 1 (some 0) ∷
-    line (level 0) 0 1 (some 0) ∷
-    line (lock 1 0) 0 0 (some 0) ∷
-    line (unlock 0) 0 0 (some 1) ∷
-    line (level 0) 0 5 (some 1) ∷
-    line (lock 1 0) 16 0 (some 1) ∷
-    line (sleep 3) 1 0 (some 0) ∷
-    line (unlock 1) 0 0 (some 0) ∷
-    line (level 0) 0 9 (some 0) ∷
-    []
-
 -- document 02, K1: "scripts are run with a block of 4096 words"
 abbrev script_block : ℕ
 script_block = 4096
 
 pub cases : List (List Line)
-cases = session ∷ nested_locks ∷ room_order ∷ mixed_chain ∷ woken_by_tick ∷ woken_by_flush ∷ ceiling_lent_on ∷ ceiling_handed_over ∷ ceiling_by_own_priority ∷ []
+cases = session ∷ nested_locks ∷ room_order ∷ mixed_chain ∷ woken_by_tick ∷ woken_by_flush ∷ []
 
 -- from a fresh state, the rules give each script the log beside it; unfolded is all that a step is made of, its test of soundness included
 pub cases_agree : map (λ c. replay (fresh script_block) (map (λ l. l.made) c)) cases ≡ map (λ c. map (λ l. l.logged) c) cases
-unfolding cases session nested_locks room_order mixed_chain woken_by_tick woken_by_flush ceiling_lent_on ceiling_handed_over ceiling_by_own_priority replay ◌and◌ ◌or◌ allb someb holds eqn occ keep range by_id place insert_tail insert_head insert_all stable ascb tiesb
+unfolding cases session nested_locks room_order mixed_chain woken_by_tick woken_by_flush replay ◌and◌ ◌or◌ allb someb holds eqn occ keep range by_id place insert_tail insert_head insert_all stable ascb tiesb
     first_at or_else first_from before inside edit walk endsb least leads_to least_leading awaited_kind awaited_object owner_awaited heir_awaited of_wait next lends level_in chain_of
     same_awaited wait_is_for waiters_of best_waiter fresh ticks_of caller_waits lock_by pass_on pend_by credit flush_of is_due outcome_due less_one age
     tick_of yield_by called effect settled_ready meet dispatch finish of_caller links_for refusals first_row columnsb sizesb rangesb clockb wait_count
     waitingb placesb ascendingb unavailableb leftb blockedb timedb waitersb timesb existsb ownersb no_ringb countsb outcomeb outcomesb none_in runsb
     holdb urgent_top urgentb set_upb tablesb soundb decide step_sound standing malformed is_formed step is_width is_depth messagesb queueb queuesb wordsb is_own pastb suitsb
-    suitedb waits_suitb owns_rightlyb ceilingsb mutexb withinb ceiling_level under_ceilings own_level taken_by pad held_for deliver send_by take_in receive_by
+    queuedb queue_waitsb taken_by pad held_for deliver send_by take_in receive_by
 cases_agree = refl

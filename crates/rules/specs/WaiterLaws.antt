@@ -13,12 +13,12 @@ use Rattle.chains.specs.Chain.{From, here, on}
 use Rattle.chains.specs.ChainLaws.{from_some}
 use Rattle.chains.specs.LeastLaws.{leading_att}
 use Rattle.rules.specs.Sizes.{levels}
-use Rattle.rules.specs.Tables.{Awaited, mutex_of, sem_of, room_in, message_in, time, awaited_kind, awaited_object, is_sleep, Wait, Tables, task_count, wait_of}
-use Rattle.rules.specs.Levels.{heir_awaited, of_wait, lends, own_level, level_in, same_awaited, wait_is_for, awaits, waiters_of, best_waiter}
+use Rattle.rules.specs.Tables.{Awaited, mutex_of, sem_of, room_in, message_in, time, awaited_kind, awaited_object, is_sleep, Wait, Tables, task_count, priority_of, wait_of}
+use Rattle.rules.specs.Levels.{heir_awaited, of_wait, lends, level_in, same_awaited, wait_is_for, awaits, waiters_of, best_waiter}
 use Rattle.rules.specs.State.{State, with_tables}
 use Rattle.rules.specs.Effect.{ended, is_due, outcome_due}
 use Rattle.rules.specs.Sound.{wait_count}
-use Rattle.rules.specs.Invariant.{Unavailable, Blocked, Suits, Suited, Outcome, Facts, Places}
+use Rattle.rules.specs.Invariant.{Unavailable, Blocked, Outcome, Facts, Places}
 use Rattle.rules.specs.LevelLaws.{wait_out, lends_ended, level_in_lem}
 
 pub wait_none : (w : Option Wait) → wait_count w ≡ 0 → w ≡ none
@@ -76,12 +76,6 @@ unfolding wait_is_for
 awaited_blocked t a none b e = absurd (clash e refl)
 awaited_blocked t a (some w) b e = subst (Unavailable t) (same_awaited_lem w.on a e) b
 
--- who waits for a suits it
-pub awaited_suits : (t : Tables) (i : ℕ) (a : Awaited) (w : Option Wait) → Suited t i w → wait_is_for w a ≡ true → Suits t i a
-unfolding wait_is_for
-awaited_suits t i a none u e = absurd (clash e refl)
-awaited_suits t i a (some w) u e = subst (Suits t i) (same_awaited_lem w.on a e) u
-
 -- and lends to whom a wait for a lends
 pub awaits_lends : (t : Tables) (a : Awaited) (i : ℕ) → awaits t a i ≡ true → lends t i ≡ heir_awaited t a
 unfolding lends of_wait wait_is_for
@@ -102,10 +96,10 @@ outcome_due_lem none = inl refl
 outcome_due_lem (some w) = by_test (Outcome none) (is_sleep w.on) (λ e. inl refl) (λ e. inr (inl refl))
 
 module _ (t : Tables) (F : Facts t) where
-  -- where nobody waits, a level is the task's by itself
-  pub level_alone : ((j : ℕ) → wait_of t j ≡ none) → (i : ℕ) → i < task_count t → level_in t i ≡ own_level t i
+  -- where nobody waits, a level is the own priority
+  pub level_alone : ((j : ℕ) → wait_of t j ≡ none) → (i : ℕ) → i < task_count t → level_in t i ≡ priority_of t i
   unfolding level_in lends of_wait
-  level_alone h i k = let a = leading_att (own_level t) (lends_ended t F) i k in a.3 ∙ ap (own_level t) (stop a.2 refl)
+  level_alone h i k = let a = leading_att (priority_of t) (lends_ended t F) i k in a.3 ∙ ap (priority_of t) (stop a.2 refl)
     where
       stop : {o : Option ℕ} {j : ℕ} → From (lends t) o j → {i : ℕ} → o ≡ some i → i ≡ j
       stop here e = sym (some_same e)

@@ -183,7 +183,7 @@ module _ (s : State) where
   effect_leaves : (x : Step) → Leaves (effect s x)
   unfolding effect pend_by flush_of send_by tick_of yield_by occ
   effect_leaves (task p) = lets_wait (effect s (task p)) (omega (arith, length_snoc s.tables.tasks.priorities p)) refl (λ i. omega arith) (λ i. omega arith)
-  effect_leaves (mutex k c) = stays (effect s (mutex k c)) refl refl refl refl
+  effect_leaves (mutex k) = stays (effect s (mutex k)) refl refl refl refl
   effect_leaves (sem count max) = stays (effect s (sem count max)) refl refl refl refl
   effect_leaves start = stays (effect s start) refl refl refl refl
   effect_leaves (lock m t) = of_caller_lem _ (λ r. lock_leaves m t r (owner_of s.tables m))

@@ -2,9 +2,9 @@
 mod room;
 
 ghost use Rattle.std.specs.Prelude.{◌≡◌};
-ghost use Rattle.machine.specs.Machine.{task_step, mutex_made, mutex_step, ceiling_mutex_step, sem_step, queue_step, owned_queue_step, start_step};
+ghost use Rattle.machine.specs.Machine.{task_step, mutex_step, sem_step, queue_step, owned_queue_step, start_step};
 
-use record::{CEILING, LEVELS, MAX_MUTEXES, MAX_SEMAPHORES, MAX_TASKS, NONE, Plan, State};
+use record::{KINDS, LEVELS, MAX_MUTEXES, MAX_SEMAPHORES, MAX_TASKS, NONE, Plan, State};
 use replies::answers;
 
 pub fn task(mut s: State, priority: u32) -> Plan
@@ -28,45 +28,21 @@ pub fn task(mut s: State, priority: u32) -> Plan
     answers::answer(s, 0, id as u32)
 }
 
-// A mutex of a kind that is in range, with its ceiling or NONE.
-fn make_mutex(mut s: State, kind: u8, ceiling: u8) -> Plan
-    ensures { result ≡ mutex_made s kind ceiling }
-{
-    let id = s.mutexes.n;
-    if MAX_MUTEXES <= id {
-        return answers::answer(s, 8, 0);
-    }
-    s.mutexes = objects::add_mutex(s.mutexes, kind, ceiling);
-    answers::answer(s, 0, id as u32)
-}
-
-// A plain or an inheriting mutex. One of the kind with a ceiling is not made without it.
-pub fn mutex(s: State, kind: u32) -> Plan
+pub fn mutex(mut s: State, kind: u32) -> Plan
     ensures { result ≡ mutex_step s kind }
 {
     if s.started != 0 {
         return answers::answer(s, 4, 0);
     }
-    if CEILING as u32 <= kind {
+    if KINDS as u32 <= kind {
         return answers::answer(s, 7, 0);
     }
-    make_mutex(s, kind as u8, NONE)
-}
-
-// A mutex with a ceiling, which no other kind has.
-pub fn ceiling_mutex(s: State, kind: u32, ceiling: u32) -> Plan
-    ensures { result ≡ ceiling_mutex_step s kind ceiling }
-{
-    if s.started != 0 {
-        return answers::answer(s, 4, 0);
+    let id = s.mutexes.n;
+    if MAX_MUTEXES <= id {
+        return answers::answer(s, 8, 0);
     }
-    if CEILING as u32 != kind {
-        return answers::answer(s, 7, 0);
-    }
-    if LEVELS as u32 <= ceiling {
-        return answers::answer(s, 7, 0);
-    }
-    make_mutex(s, CEILING, ceiling as u8)
+    s.mutexes = objects::add_mutex(s.mutexes, kind as u8);
+    answers::answer(s, 0, id as u32)
 }
 
 pub fn sem(mut s: State, count: u32, maximum: u32) -> Plan

@@ -1,13 +1,9 @@
 // The test of a record, phrase by phrase.
 ghost use Rattle.std.specs.Prelude.{◌≡◌, List, ℕ, length};
-ghost use Rattle.lists.specs.Test.{allb};
-ghost use Rattle.rules.specs.Sizes.{task_places};
-ghost use Rattle.checks.specs.Checks.{sizes_in, others_unused, tasks_in, objects_in, queues_in, lists_in, tables_in, places_in, waits_in, same_at, levels_in};
-ghost use Rattle.record.specs.Reads.{own_levels};
+ghost use Rattle.checks.specs.Checks.{sizes_in, others_unused, tasks_in, objects_in, queues_in, lists_in, tables_in, places_in, waits_in, levels_in};
 ghost use Rattle.record.specs.Whole.{whole};
 ghost use Rattle.record.specs.SoundRecord.{sound_of};
 ghost use Rattle.record.specs.GoodRecord.{Typed};
-ghost use Rattle.record.specs.declared.Tasks.{Tasks};
 
 use record::{
     MAX_MUTEXES, MAX_QUEUES, MAX_SEMAPHORES, Mutexes, NONE, Queues, Semaphores, State, TASK_PLACES,
@@ -86,14 +82,11 @@ fn tasks_in(t: Tasks, clock: u32) -> bool
     sound_tables::outcomes(&wait, &outcome)
 }
 
-// Kinds, owners, ceilings, counts.
+// Kinds, owners, counts.
 fn objects_in(m: Mutexes, c: Semaphores, tasks: u8) -> bool
     ensures { result ≡ objects_in m c tasks }
 {
     if !sound_objects::mutexes(m, tasks) {
-        return false;
-    }
-    if !sound_objects::ceilings(m) {
         return false;
     }
     let count = c.count;
@@ -134,18 +127,16 @@ fn places_in(wait: &[u8; TASKS], ready: TaskList, waiting: TaskList, n: u8, runn
     sound_places::places(wait, &waits, &all, n, running)
 }
 
-// Waits are for what isn't available, by who may wait for it, and there is "no ring of waits". Where nobody waits for an object, which is seen at
-// once, tables aren't looked at.
+// Waits are for what isn't available, and there is "no ring of waits". Where nobody waits for an object, which is seen at once, tables aren't looked at.
 fn waits_in<'a>(
     wait: &'a [u8; TASKS],
     object: &'a [u8; TASKS],
-    priority: &'a [u8; TASKS],
     m: Mutexes,
     c: Semaphores,
     x: Queues,
     words: &'a [u32],
 ) -> bool
-    ensures { result ≡ waits_in wait.now object.now priority.now m c x words.now }
+    ensures { result ≡ waits_in wait.now object.now m c x words.now }
 {
     if sound_tables::none_for_objects(wait) {
         return true;
@@ -157,52 +148,26 @@ fn waits_in<'a>(
     if !sound_objects::blocked(wait, object, &next, &empty, c.n) {
         return false;
     }
-    if !sound_objects::waiters_allowed(wait, object, priority, m) {
-        return false;
-    }
     if !sound_waiters::fit(wait, object, x, words) {
         return false;
     }
     sound_places::owners_end(&next, &owner, &queues)
 }
 
-// Every task's level by itself. Where no mutex has a ceiling, which is seen at once, that is its own priority.
-fn own_levels(priority: [u8; TASKS], m: Mutexes) -> [u8; TASKS]
-    ensures { (t : Tasks) → t.priority ≡ priority → result ≡ own_levels t m }
-{
-    if sound_objects::no_ceilings(m) {
-        return priority;
-    }
-    leads::own_levels(priority, m)
-}
-
-// Stored levels where nothing is lent: tasks have their levels by themselves. Each case compares a table of its own: what comes from two places is
-// compared one place after another.
-fn alone_in(priority: [u8; TASKS], level: &[u8; TASKS], m: Mutexes) -> bool
-    ensures { (t : Tasks) → t.priority ≡ priority → result ≡ allb task_places (same_at level.now (own_levels t m)) }
-{
-    if sound_objects::no_ceilings(m) {
-        return sound_places::same(level, &priority);
-    }
-    let own = leads::own_levels(priority, m);
-    sound_places::same(level, &own)
-}
-
-// "stored levels as defined". Where nobody waits for a mutex or to send, nothing is lent.
+// "stored levels as defined": own priorities, where nobody waits for a mutex or to send, since nothing is lent then.
 fn levels_in<'a>(
-    priority: [u8; TASKS],
+    own: [u8; TASKS],
     level: &'a [u8; TASKS],
     wait: &'a [u8; TASKS],
     object: &'a [u8; TASKS],
     m: Mutexes,
     x: Queues,
 ) -> bool
-    ensures { (t : Tasks) → t.priority ≡ priority → result ≡ levels_in (own_levels t m) level.now wait.now object.now m x }
+    ensures { result ≡ levels_in own level.now wait.now object.now m x }
 {
     if leads::none_waits(wait) {
-        return alone_in(priority, level, m);
+        return sound_places::same(level, &own);
     }
-    let own = own_levels(priority, m);
     let heirs = leads::heirs_of(m);
     let queues = x.owner;
     let to = leads::leads_of(wait, object, heirs, queues);
@@ -210,8 +175,7 @@ fn levels_in<'a>(
     sound_places::same(level, &lent)
 }
 
-// The tables and lists, each by itself. The sizes come first: what is said of the others counts on them. The owners of mutexes with ceilings are held
-// against the priorities here, beside the whole record: read at an owner's place it stays in memory, which was measured to make all columns' tests quicker.
+// The tables and lists, each by itself. The sizes come first: what is said of the others counts on them.
 fn tables_in(s: State, words: &[u32], space: usize) -> bool
     ensures { result ≡ tables_in s words.now space }
 {
@@ -222,10 +186,6 @@ fn tables_in(s: State, words: &[u32], space: usize) -> bool
         return false;
     }
     if !objects_in(s.mutexes, s.semaphores, s.tasks.n) {
-        return false;
-    }
-    let priority = s.tasks.priority;
-    if !sound_objects::owners_allowed(&priority, s.mutexes) {
         return false;
     }
     if !queues_in(s.queues, s.tasks.n, space) {
@@ -258,14 +218,12 @@ pub fn is_sound(s: State, words: &[u32], space: usize) -> bool
     if !places_in(&wait, ready, waiting, t.n, s.running) {
         return false;
     }
-    let priority = t.priority;
-    if !waits_in(
-        &wait, &object, &priority, mutexes, semaphores, queues, words,
-    ) {
+    if !waits_in(&wait, &object, mutexes, semaphores, queues, words) {
         return false;
     }
+    let own = t.priority;
     let level = t.level;
-    if !levels_in(priority, &level, &wait, &object, mutexes, queues) {
+    if !levels_in(own, &level, &wait, &object, mutexes, queues) {
         return false;
     }
     if !task_list_checks::ascending(ready, level) {

@@ -3,11 +3,11 @@ ghost use Rattle.std.specs.Prelude.{◌≡◌, cond, eqb};
 ghost use Rattle.lists.specs.Test.{allb};
 ghost use Rattle.lists.specs.Table.{filled};
 ghost use Rattle.rules.specs.Sizes.{task_places, max_mutexes, max_semaphores};
-ghost use Rattle.checks.specs.Checks.{mutex_fits, mutex_fits_at, ceiling_fits, ceiling_fits_at, sem_fits, sem_fits_at, empty_at, at_object, blocked_fits, blocked_fits_at, is_within, waiter_allowed, waiter_allowed_at, waiters_allowed, owner_allowed, owners_allowed, free_at};
+ghost use Rattle.checks.specs.Checks.{mutex_fits, mutex_fits_at, sem_fits, sem_fits_at, empty_at, at_object, blocked_fits, blocked_fits_at, free_at};
 
 use record::{
-    CEILING, KINDS, LEVELS, MAX_MUTEXES, MAX_SEMAPHORES, MUTEXES, Mutexes, NONE, ON_MUTEX,
-    ON_SEMAPHORE, SEMAPHORES, Semaphores, TASK_PLACES, TASKS,
+    KINDS, MAX_MUTEXES, MAX_SEMAPHORES, MUTEXES, Mutexes, NONE, ON_MUTEX, ON_SEMAPHORE, SEMAPHORES,
+    Semaphores, TASKS,
 };
 
 // A mutex's kind is in range, and its owner one of `tasks`; an unused one is as in the fresh record.
@@ -32,74 +32,6 @@ pub fn mutexes(m: Mutexes, tasks: u8) -> bool
         );
     }
     fits
-}
-
-// A ceiling is one of the levels where the kind has one, else there is none.
-fn ceiling_fits(kind: u8, ceiling: u8) -> bool
-    ensures { result ≡ ceiling_fits kind ceiling }
-{
-    flags::choose(kind == CEILING, ceiling < LEVELS, ceiling == NONE)
-}
-
-// "kind 2: `mutex 2 c`, with ceiling c from 0 to 31"; the other kinds have none, nor have unused places, whose kind is 0. Apart from kinds and
-// owners: in one loop with them it is compiled to tests of one place after another.
-pub fn ceilings(m: Mutexes) -> bool
-    ensures { result ≡ allb max_mutexes (ceiling_fits_at m) }
-{
-    let mut fits = true;
-    for i in 0..MUTEXES {
-        fits = flags::both(ceiling_fits(m.kind[i], m.ceiling[i]), fits);
-    }
-    fits
-}
-
-// Has no mutex a ceiling?
-pub fn no_ceilings(m: Mutexes) -> bool
-    ensures { result ≡ allb max_mutexes (free_at m.ceiling) }
-{
-    let mut none = true;
-    for i in 0..MUTEXES {
-        none = flags::both(m.ceiling[i] == NONE, none);
-    }
-    none
-}
-
-// An own priority is no smaller number than a ceiling, or there is none.
-fn is_within(ceiling: u8, priority: u8) -> bool
-    ensures { result ≡ is_within ceiling priority }
-{
-    flags::either(ceiling == NONE, ceiling <= priority)
-}
-
-// A mutex's owner, by its ceiling, or nobody, of whom no priority counts.
-fn owner_allowed(owner: u8, ceiling: u8, priority: u8) -> bool
-    ensures { result ≡ owner_allowed owner ceiling priority }
-{
-    flags::either(owner == NONE, is_within(ceiling, priority))
-}
-
-// All owners. A priority is read whether there is an owner or not: no branch hangs on it.
-fn each_owner_allowed(priority: &[u8; TASKS], m: Mutexes) -> bool
-    ensures { result ≡ owners_allowed priority.now m }
-{
-    let mut fits = true;
-    for i in 0..MUTEXES {
-        let owner = m.owner[i];
-        let own = priority[(owner % TASK_PLACES) as usize];
-        fits = flags::both(owner_allowed(owner, m.ceiling[i], own), fits);
-    }
-    fits
-}
-
-// "No owner or waiter of one has an own priority smaller than c": the owners. Where no mutex has a ceiling, which is seen at once, they aren't
-// looked at.
-pub fn owners_allowed(priority: &[u8; TASKS], m: Mutexes) -> bool
-    ensures { result ≡ owners_allowed priority.now m }
-{
-    if no_ceilings(m) {
-        return true;
-    }
-    each_owner_allowed(priority, m)
 }
 
 // A count is at most its maximum, and that at least 1; an unused semaphore is as in the fresh record.
@@ -188,46 +120,6 @@ pub fn blocked<'a>(
         );
     }
     fits
-}
-
-// Who waits for a mutex, by its ceiling.
-fn waiter_allowed(kind: u8, ceiling: u8, priority: u8) -> bool
-    ensures { result ≡ waiter_allowed kind ceiling priority }
-{
-    flags::either(kind != ON_MUTEX, is_within(ceiling, priority))
-}
-
-// All who wait for mutexes, by a table of the ceilings at their objects.
-fn each_waiter_allowed<'a>(
-    wait: &'a [u8; TASKS],
-    ceiling: &'a [u8; TASKS],
-    priority: &'a [u8; TASKS],
-) -> bool
-    ensures { result ≡ allb task_places (waiter_allowed_at wait.now ceiling.now priority.now) }
-{
-    let mut fits = true;
-    for i in 0..TASKS {
-        fits = flags::both(waiter_allowed(wait[i], ceiling[i], priority[i]), fits);
-    }
-    fits
-}
-
-// "No owner or waiter of one has an own priority smaller than c": the waiters. Where no mutex has a ceiling, which is seen at once, they aren't
-// looked at.
-pub fn waiters_allowed<'a>(
-    wait: &'a [u8; TASKS],
-    object: &'a [u8; TASKS],
-    priority: &'a [u8; TASKS],
-    m: Mutexes,
-) -> bool
-    ensures { result ≡ waiters_allowed wait.now object.now priority.now m }
-{
-    if no_ceilings(m) {
-        return true;
-    }
-    let ceiling = m.ceiling;
-    let awaited = at_objects(object, ceiling);
-    each_waiter_allowed(wait, &awaited, priority)
 }
 
 // Is no mutex owned?

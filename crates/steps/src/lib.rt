@@ -12,7 +12,6 @@ pub fn perform(s: State, x: Request, count: usize, space: usize, words: &[u32]) 
     match x {
         Request::Task { priority } => set_up_steps::task(s, priority),
         Request::Mutex { kind } => set_up_steps::mutex(s, kind),
-        Request::CeilingMutex { kind, ceiling } => set_up_steps::ceiling_mutex(s, kind, ceiling),
         Request::Sem { count, maximum } => set_up_steps::sem(s, count, maximum),
         Request::Start => set_up_steps::start(s),
         Request::Lock { mutex, time } => mutex_steps::lock(s, mutex, time),

@@ -5,9 +5,9 @@ use Rattle.lists.specs.Test.{◌and◌}
 use Rattle.text.specs.Cut.{pieces}
 use Rattle.text.specs.Fields.{fields}
 use Rattle.decimal.specs.Parse.{with_digit, with_digits, parsed}
-use Rattle.rules.specs.Step.{Step, task, mutex, sem, start, lock, sleep, tick, outcome, queue, send, receive, word}
+use Rattle.rules.specs.Step.{Step, task, sem, start, lock, sleep, tick, outcome, queue, send, receive, word}
 use Rattle.text.specs.Ascii.{ascii}
-use Rattle.words.specs.Form.{alone, with_one, with_two, with_ceiling, with_two_or_three, with_words, words, same_bytes, made_by, with_number, numbers_of, made_from, step_in, step_on}
+use Rattle.words.specs.Form.{alone, with_one, with_two, with_two_or_three, with_words, words, same_bytes, made_by, with_number, numbers_of, made_from, step_in, step_on}
 use Prim.Native.String.{String}
 
 pub record Example : Type 0 where
@@ -21,10 +21,6 @@ pub examples : List Example
 examples =
     it "lock\t0\t10" (some (lock 0 10)) ∷
     it "task\t4294967295" (some (task 4294967295)) ∷
-    it "mutex\t1" (some (mutex 1 none)) ∷
-    it "mutex\t3" (some (mutex 3 none)) ∷
-    it "mutex\t2\t31" (some (mutex 2 (some 31))) ∷
-    it "mutex\t2\t32" (some (mutex 2 (some 32))) ∷
     it "sem\t1\t1" (some (sem 1 1)) ∷
     it "outcome\t15" (some (outcome 15)) ∷
     it "start" (some start) ∷
@@ -41,8 +37,6 @@ examples =
     it "task" none ∷
     it "tick\t1" none ∷
     it "lock\t0\t10\t1" none ∷
-    it "mutex" none ∷
-    it "mutex\t2\t3\t4" none ∷
     it "queue\t1" none ∷
     it "queue\t1\t2\t3\t4" none ∷
     it "send\t0\t5" none ∷
@@ -50,11 +44,6 @@ examples =
     it "receive\t7" none ∷
     it "word\t1" none ∷
     it "word\t1\t2\t3" none ∷
-    -- document 02, K4: "14 for kind 2 without c or another kind with it"
-    it "mutex\t2" none ∷
-    it "mutex\t0\t5" none ∷
-    it "mutex\t1\t5" none ∷
-    it "mutex\t3\t5" none ∷
     -- no numbers: a leading zero, too great, a sign, none
     it "lock\t00\t1" none ∷
     it "lock\t0\t01" none ∷
@@ -79,5 +68,5 @@ examples =
     []
 
 pub examples_read : map (λ (e : Example). step_on (ascii e.line)) examples ≡ map (λ (e : Example). e.read) examples
-unfolding ascii examples ◌and◌ pieces fields with_digit with_digits parsed alone with_one with_two with_ceiling with_two_or_three with_words words same_bytes made_by with_number numbers_of made_from step_in step_on
+unfolding ascii examples ◌and◌ pieces fields with_digit with_digits parsed alone with_one with_two with_two_or_three with_words words same_bytes made_by with_number numbers_of made_from step_in step_on
 examples_read = refl

@@ -73,7 +73,7 @@ free_numbers (v ∷ l) (suc i) = free_numbers l i
 free_name : (x : Step) → Free tab (name_of x)
 unfolding ascii up_to name_of
 free_name (task p) = refl
-free_name (mutex k c) = refl
+free_name (mutex k) = refl
 free_name (sem n m) = refl
 free_name start = refl
 free_name (lock m t) = refl
@@ -108,8 +108,7 @@ numbers_length (v ∷ l) = omega (arith, length-append (decimal v) (behind tab (
 row_length : (x : Step) → is_formed x ≡ true → length (name_of x) + 11 * length (numbers_in x) ≤ 114
 unfolding ascii name_of numbers_in is_formed
 row_length (task p) f = omega arith
-row_length (mutex k none) f = omega arith
-row_length (mutex k (some c)) f = omega arith
+row_length (mutex k) f = omega arith
 row_length (sem n m) f = omega arith
 row_length start f = omega arith
 row_length (lock m t) f = omega arith
@@ -134,7 +133,7 @@ pub line_short : (x : Step) → is_formed x ≡ true → length (line_of x) ≤ 
 unfolding line_of joined
 line_short x f = omega (arith, length-append (name_of x) (behind tab (map decimal (numbers_in x))), numbers_length (numbers_in x), row_length x f)
 
--- a formed step's line is that step
+-- a step's line is that step: a send's where it has one to eight words
 pub written_read : (x : Step) → is_formed x ≡ true → NumbersFit x → step_on (line_of x) ≡ some x
 unfolding made_from step_on step_in line_of
 written_read x f h =
@@ -183,7 +182,7 @@ row_read (n ∷ fs) x h = made_split n (numbers_of fs) x h (λ l g m.
     let s = numbers_read fs l g in
     (rw r.1 s.0, rw (r.0, r.1, s.1), r.2))
 
--- a line that is a step is that step's line, and the step is formed
+-- a line that is a step is that step's line, and a send on it has one to eight words
 pub read_written : (line : List ℕ) (x : Step) → step_on line ≡ some x → NumbersFit x × (line_of x ≡ line) × (is_formed x ≡ true)
 unfolding step_on line_of
 read_written line x h = elim (which (leb (length line) longest)) [

@@ -30,7 +30,7 @@ chain_from next at fuel = walk fuel (next_in next) (task_at at)
 unfoldable pub lent : List ℕ → ℕ → ℕ → List ℕ
 lent levels o p = cond (ltb o task_places) (set levels o (min p (get_or levels o 0))) levels
 
--- numbers of tasks, each raised to the levels that the first n places of a table lend to that task, by a table of ids
+-- the own priorities, each raised to the levels that the first n tasks lend to that task, by a table of ids
 unfoldable pub lent_by : List ℕ → List ℕ → List ℕ → ℕ → List ℕ
 lent_by own to level zero = own
 lent_by own to level (suc j) = lent (lent_by own to level j) (get_or to j 0) (get_or level j 0)

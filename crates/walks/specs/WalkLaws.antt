@@ -1,12 +1,11 @@
 -- Laws of walks over a table of ids: the levels they leave are the least values that lead to each task.
-use Rattle.std.specs.Prelude.{◌≡◌, Bool, cond, ltb, eqb, get_or, set}
+use Rattle.std.specs.Prelude.{◌≡◌, List, [], ◌∷◌, Bool, cond, ltb, eqb, length, get_or, set}
 use Rattle.std.proofs.Math.Path.{refl, ap, sym, fun_ext}
-use Rattle.std.proofs.Common.{◌∙◌, arith, get_or-set_same, get_or-set_other, lt-ltb, le-ltb, eq-eqb, ne_eqb}
-use mathlib.Core.List.{List, [], ◌∷◌}
+use Rattle.std.proofs.Common.{◌∙◌, arith, length-set, get_or-set_same, get_or-set_other, lt-ltb, le-ltb, eq-eqb, ne_eqb}
 use Rattle.std.proofs.Math.Option.{Option, none, some}
 use Prim.Native.Nat.{ℕ, zero, suc, ◌+◌, ◌≤◌, ◌<◌, min}
 use Rattle.std.proofs.Math.Decide.{ℕ_discrete, dec_lt}
-use Rattle.std.proofs.Math.ListN.{length, length-set, get_or-eq_default}
+use Rattle.std.proofs.Math.ListN.{get_or-eq_default}
 use Rattle.std.proofs.Math.Seq.{set_out}
 use Rattle.lists.specs.Test.{holds}
 use Rattle.lists.specs.Count.{eqn, occ, member}
@@ -27,7 +26,7 @@ module _ (x : ℕ) where
   task_out h = rw (le-ltb x task_places h) refl
 
 -- whether an id's task is i
-pub holds_task : (x i : ℕ) → i < task_places → holds (task_at x) i ≡ eqb x i
+holds_task : (x i : ℕ) → i < task_places → holds (task_at x) i ≡ eqb x i
 unfolding holds
 holds_task x i h = elim (dec_lt x task_places) [
   | yes l ↦ rw (task_in x l) refl
@@ -162,12 +161,6 @@ module _ (own to level : List ℕ) where
   unfolding lent_by least
   get_d_lent_by zero i h = refl
   get_d_lent_by (suc j) i h = get_d_lent (lent_by own to level j) (get_or to j 0) (get_or level j 0) i h ∙ rw (get_d_lent_by j i h) refl
-
-  pub length_lent_by : (j : ℕ) → length (lent_by own to level j) ≡ length own
-  unfolding lent_by lent
-  length_lent_by zero = refl
-  length_lent_by (suc j) = by_test (λ (l : List ℕ). length l ≡ length own) (ltb (get_or to j 0) task_places)
-      (λ e. length-set (lent_by own to level j) (get_or to j 0) (min (get_or level j 0) (get_or (lent_by own to level j) (get_or to j 0) 0)) ∙ length_lent_by j) (λ e. length_lent_by j)
 
   -- the same over a map that agrees with the table, and leads nowhere from n on
   pub lent_ext : (n : ℕ) (f : ℕ → Option ℕ) → n ≤ task_places → ((k : ℕ) → next_in to k ≡ f k) → ((k : ℕ) → n ≤ k → f k ≡ none)

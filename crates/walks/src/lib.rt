@@ -3,7 +3,7 @@ ghost use Rattle.std.specs.Prelude.{◌≡◌, ◌≤◌, min, length};
 ghost use Rattle.lists.specs.Count.{member};
 ghost use Rattle.lists.specs.Order.{before};
 ghost use Rattle.chains.specs.Chain.{endsb};
-ghost use Rattle.rules.specs.Sizes.{task_places, max_mutexes};
+ghost use Rattle.rules.specs.Sizes.{task_places};
 ghost use Rattle.walks.specs.Walk.{task_at, next_in, lifted, raised, chain_from, lent, lent_by};
 
 // How many tasks a table has places for.
@@ -11,9 +11,6 @@ pub const TASKS: usize = 16;
 
 // The same, as ids count.
 const TASK_PLACES: u8 = TASKS as u8;
-
-// How many mutexes a table has places for.
-pub const MUTEXES: usize = 8;
 
 // Each task on the chain from `at` raised to `p`, where that is more urgent; the fuel, tasks not yet seen, falls at each call.
 pub fn lift(levels: &mut [u8; TASKS], next: &[u8; TASKS], at: u8, p: u8, fuel: u8)
@@ -32,7 +29,7 @@ pub fn lift(levels: &mut [u8; TASKS], next: &[u8; TASKS], at: u8, p: u8, fuel: u
     lift(levels, next, next[first], p, fuel - 1)
 }
 
-// The least own level among each task and all tasks whose chain leads to it, of the first `n` tasks.
+// The least own priority among each task and all tasks whose chain leads to it, of the first `n` tasks.
 pub fn levels_of(own: [u8; TASKS], next: &[u8; TASKS], n: u8) -> [u8; TASKS]
     ensures { result ≡ raised own next.now n (min n task_places) }
 {
@@ -54,7 +51,7 @@ pub fn levels_of(own: [u8; TASKS], next: &[u8; TASKS], n: u8) -> [u8; TASKS]
 }
 
 // One task raised to `p`, where that is more urgent.
-pub fn lend(levels: &mut [u8; TASKS], to: u8, p: u8)
+fn lend(levels: &mut [u8; TASKS], to: u8, p: u8)
     ensures { levels.new ≡ lent levels.old to p }
 {
     let o = to as usize;
@@ -66,28 +63,13 @@ pub fn lend(levels: &mut [u8; TASKS], to: u8, p: u8)
     }
 }
 
-// Each task's own level, or the most urgent level that is lent to it by those that lead to it: one link of each chain.
+// Each task's own priority, or the most urgent level that is lent to it by those that lead to it: one link of each chain.
 pub fn lent_levels<'a>(own: [u8; TASKS], to: &'a [u8; TASKS], level: &'a [u8; TASKS]) -> [u8; TASKS]
     ensures { result ≡ lent_by own to.now level.now task_places }
 {
     let mut l = own;
     for i in 0..TASKS {
         lend(&mut l, to[i], level[i]);
-    }
-    l
-}
-
-// Each task's own priority, or the most urgent ceiling of a mutex that it owns. A ceiling that is no level raises nobody.
-pub fn own_levels<'a>(
-    priority: [u8; TASKS],
-    owner: &'a [u8; MUTEXES],
-    ceiling: &'a [u8; MUTEXES],
-) -> [u8; TASKS]
-    ensures { result ≡ lent_by priority owner.now ceiling.now max_mutexes }
-{
-    let mut l = priority;
-    for i in 0..MUTEXES {
-        lend(&mut l, owner[i], ceiling[i]);
     }
     l
 }

@@ -1,5 +1,5 @@
 -- "Script and log": which lines are steps, and which step a line is.
-use Rattle.std.specs.Prelude.{List, [], ◌∷◌, Bool, true, false, cond, not, ℕ, eqb, ltb, leb, length}
+use Rattle.std.specs.Prelude.{List, [], ◌∷◌, Bool, true, false, cond, ℕ, eqb, ltb, leb, length}
 use Rattle.std.proofs.Math.Option.{Option, none, some}
 use Rattle.lists.specs.Test.{◌and◌}
 use Rattle.text.specs.Fields.{fields}
@@ -7,7 +7,7 @@ use Rattle.decimal.specs.Parse.{parsed}
 use Rattle.decimal.specs.declared.Number.{Number}
 use Rattle.decimal.specs.declared.Number.TheVariants.{Value, Bad}
 use Rattle.rules.specs.Step.{Step, task, mutex, sem, start, lock, unlock, pend, post, flush, sleep, yield, hold, free, tick, level, outcome, queue, send, receive, word}
-use Rattle.rules.specs.Sizes.{held_words, ceiling_kind}
+use Rattle.rules.specs.Sizes.{held_words}
 use Rattle.text.specs.Ascii.{ascii}
 
 -- a script's first line: "The first line is `kernel`, tab, `1`"
@@ -40,13 +40,6 @@ with_two f (a ∷ []) = none
 with_two f (a ∷ b ∷ []) = some (f a b)
 with_two f (a ∷ b ∷ c ∷ l) = none
 
--- a kind alone, or with a ceiling: "`mutex 2 c`", "14 for kind 2 without c or another kind with it"
-unfoldable pub with_ceiling : (ℕ → Option ℕ → Step) → List ℕ → Option Step
-with_ceiling f [] = none
-with_ceiling f (k ∷ []) = cond (not (eqb k ceiling_kind)) (some (f k none)) none
-with_ceiling f (k ∷ c ∷ []) = cond (eqb k ceiling_kind) (some (f k (some c))) none
-with_ceiling f (k ∷ c ∷ a ∷ l) = none
-
 -- with two, and a third that may be left out: "`queue w d` or `queue w d owner`"
 unfoldable pub with_two_or_three : (ℕ → ℕ → Option ℕ → Step) → List ℕ → Option Step
 with_two_or_three f [] = none
@@ -69,7 +62,7 @@ most_numbers = 10
 unfoldable pub words : List Word
 words =
     record { name = ascii "task"; makes = with_one task } ∷
-    record { name = ascii "mutex"; makes = with_ceiling mutex } ∷
+    record { name = ascii "mutex"; makes = with_one mutex } ∷
     record { name = ascii "sem"; makes = with_two sem } ∷
     record { name = ascii "start"; makes = alone start } ∷
     record { name = ascii "lock"; makes = with_two lock } ∷

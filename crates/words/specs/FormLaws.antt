@@ -5,23 +5,22 @@ use Rattle.std.proofs.Math.Option.{Option, none, some}
 use Rattle.lists.specs.Test.{◌and◌}
 use Rattle.lists.specs.TestLaws.{which, same_test}
 use Rattle.rules.specs.Step.{Step, task, mutex, sem, start, lock, unlock, pend, post, flush, sleep, yield, hold, free, tick, level, outcome, queue, send, receive, word}
-use Rattle.rules.specs.Sizes.{held_words, ceiling_kind}
+use Rattle.rules.specs.Sizes.{held_words}
 use Rattle.rules.specs.Answer.{is_formed}
 use Rattle.record.specs.DemandRecord.{request_for}
 use Rattle.text.specs.Ascii.{ascii}
-use Rattle.words.specs.Form.{Word, alone, with_one, with_two, with_ceiling, with_two_or_three, with_words, most_numbers, words, same_bytes, made_by}
+use Rattle.words.specs.Form.{Word, alone, with_one, with_two, with_two_or_three, with_words, most_numbers, words, same_bytes, made_by}
 use Rattle.words.specs.Reading.{reading_for, reading, few_numbers}
 use Rattle.words.specs.Written.{name_of, numbers_in}
 use Rattle.words.specs.SameLaws.{same_equal, same_length}
 use Rattle.words.specs.declared.Reading.{Reading}  -- keep
 use Rattle.words.specs.declared.Reading.TheVariants.{Made, Malformed}  -- keep
 
--- each formed step is what its word makes of its numbers
+-- each step is what its word makes of its numbers: a send where it has one to eight words
 pub made_back : (x : Step) → is_formed x ≡ true → made_by words (name_of x) (numbers_in x) ≡ some x
-unfolding ascii ◌and◌ name_of numbers_in alone with_one with_two with_ceiling with_two_or_three with_words words same_bytes made_by is_formed
+unfolding ascii ◌and◌ name_of numbers_in alone with_one with_two with_two_or_three with_words words same_bytes made_by is_formed
 made_back (task p) f = refl
-made_back (mutex k none) f = rw f
-made_back (mutex k (some c)) f = rw f
+made_back (mutex k) f = refl
 made_back (sem n m) f = refl
 made_back start f = refl
 made_back (lock m t) f = refl
@@ -63,23 +62,6 @@ two_read f [] e g = refl
 two_read f (c ∷ []) e g = refl
 two_read f (c ∷ d ∷ []) e g = rw (e, g)
 two_read f (c ∷ d ∷ i ∷ l) e g = rw (ne_eqb (length (c ∷ d ∷ i ∷ l)) 2 (λ h. omega arith))
-
--- a ceiling: where the kind has none, and where it has one
-pub kind_read : (f : ℕ → Option ℕ → Step) (l : List ℕ) {k : ℕ} → k ≡ get_or l 0 0 → (k ≡ ceiling_kind → ⊥)
-    → read_if (eqb (length l) 1) (f k none) ≡ reading_for (with_ceiling f l)
-unfolding with_ceiling reading_for
-kind_read f [] e n = refl
-kind_read f (a ∷ []) e n = rw (← e, ne_eqb _ _ n)
-kind_read f (a ∷ c ∷ []) e n = rw (← e, ne_eqb _ _ n)
-kind_read f (a ∷ c ∷ d ∷ l) e n = rw (ne_eqb (length (a ∷ c ∷ d ∷ l)) 1 (λ h. omega arith))
-
-pub ceiling_read : (f : ℕ → Option ℕ → Step) (l : List ℕ) {k c : ℕ} → k ≡ get_or l 0 0 → c ≡ get_or l 1 0 → k ≡ ceiling_kind
-    → read_if (eqb (length l) 2) (f k (some c)) ≡ reading_for (with_ceiling f l)
-unfolding with_ceiling reading_for
-ceiling_read f [] e g h = refl
-ceiling_read f (a ∷ []) e g h = rw (← e, h)
-ceiling_read f (a ∷ b ∷ []) e g h = rw (← e, g, h)
-ceiling_read f (a ∷ b ∷ d ∷ l) e g h = rw (ne_eqb (length (a ∷ b ∷ d ∷ l)) 2 (λ z. omega arith))
 
 -- a third number that may be left out: where it is, and where there is one
 pub two_alone_read : (f : ℕ → ℕ → Option ℕ → Step) (l : List ℕ) {a b : ℕ} → a ≡ get_or l 0 0 → b ≡ get_or l 1 0 → length l ≡ 2

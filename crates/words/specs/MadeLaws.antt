@@ -1,13 +1,13 @@
--- What a word makes has the word's name, just the numbers given, and is formed.
-use Rattle.std.specs.Prelude.{◌≡◌, refl, List, [], ◌∷◌, Bool, true, false, cond, not, ℕ, eqb, ltb, leb, length}
+-- What a word makes has the word's name, just the numbers given, and, where it is a send, one to eight words.
+use Rattle.std.specs.Prelude.{◌≡◌, refl, List, [], ◌∷◌, true, ℕ, ltb, leb, length}
 use Rattle.std.proofs.Common.{sym, ◌∙◌, inl, inr}
 use Rattle.std.proofs.Math.Option.{Option, none, some}
 use Rattle.lists.specs.Test.{◌and◌}
 use Rattle.lists.specs.TestLaws.{which, none_some, some_same}
 use Rattle.rules.specs.Step.{Step, task, mutex, sem, start, lock, unlock, pend, post, flush, sleep, yield, hold, free, tick, level, outcome, queue, send, receive, word}
-use Rattle.rules.specs.Sizes.{held_words, ceiling_kind}
+use Rattle.rules.specs.Sizes.{held_words}
 use Rattle.rules.specs.Answer.{is_formed}
-use Rattle.words.specs.Form.{Word, alone, with_one, with_two, with_ceiling, with_two_or_three, with_words, words, same_bytes, made_by}
+use Rattle.words.specs.Form.{Word, alone, with_one, with_two, with_two_or_three, with_words, words, same_bytes, made_by}
 use Rattle.words.specs.Written.{name_of, numbers_in}
 use Rattle.words.specs.SameLaws.{same_equal}
 use Rattle.words.specs.FormLaws.{Each, end, ◌also◌}
@@ -37,19 +37,6 @@ good_two n g e (a ∷ []) x h = none_some refl h
 good_two n g e (a ∷ b ∷ []) x h = let k : g a b ≡ x = some_same h in rw k at (e a b)
 good_two n g e (a ∷ b ∷ c ∷ l) x h = none_some refl h
 
--- a step that is made where a test holds
-if_made : (b : Bool) (P : Step → Type 0) (y x : Step) → (b ≡ true → P y) → cond b (some y) none ≡ some x → P x
-if_made true P y x f h = let k : y ≡ x = some_same h in rw k at (f refl)
-if_made false P y x f h = none_some refl h
-
-good_ceiling : (n : List ℕ) (g : ℕ → Option ℕ → Step) → ((k : ℕ) → not (eqb k ceiling_kind) ≡ true → Fits n (k ∷ []) (g k none))
-    → ((k c : ℕ) → eqb k ceiling_kind ≡ true → Fits n (k ∷ c ∷ []) (g k (some c))) → Good (record { name = n; makes = with_ceiling g })
-unfolding with_ceiling
-good_ceiling n g e f [] x h = none_some refl h
-good_ceiling n g e f (k ∷ []) x h = if_made _ (Fits n (k ∷ [])) _ x (e k) h
-good_ceiling n g e f (k ∷ c ∷ []) x h = if_made _ (Fits n (k ∷ c ∷ [])) _ x (f k c) h
-good_ceiling n g e f (k ∷ c ∷ a ∷ l) x h = none_some refl h
-
 good_two_or_three : (n : List ℕ) (g : ℕ → ℕ → Option ℕ → Step) → ((a b : ℕ) → Fits n (a ∷ b ∷ []) (g a b none))
     → ((a b c : ℕ) → Fits n (a ∷ b ∷ c ∷ []) (g a b (some c))) → Good (record { name = n; makes = with_two_or_three g })
 unfolding with_two_or_three
@@ -64,13 +51,16 @@ good_words : (n : List ℕ) (g : ℕ → ℕ → List ℕ → Step)
 unfolding with_words
 good_words n g e [] x h = none_some refl h
 good_words n g e (a ∷ []) x h = none_some refl h
-good_words n g e (a ∷ b ∷ m) x h = if_made _ (Fits n (a ∷ b ∷ m)) _ x (e a b m) h
+good_words n g e (a ∷ b ∷ m) x h = elim (which (ltb 0 (length m) and leb (length m) held_words)) [
+  | inl t ↦ (let k : g a b m ≡ x = some_same (rw t at h) in rw k at (e a b m t))
+  | inr t ↦ none_some refl (rw t at h)
+]
 
 words_good : Each Good words
 unfolding words name_of numbers_in is_formed
 words_good =
     good_one _ task (λ a. (refl, refl, refl)) also
-    good_ceiling _ mutex (λ k t. (refl, refl, t)) (λ k c t. (refl, refl, t)) also
+    good_one _ mutex (λ a. (refl, refl, refl)) also
     good_two _ sem (λ a b. (refl, refl, refl)) also
     good_alone _ start (refl, refl, refl) also
     good_two _ lock (λ a b. (refl, refl, refl)) also

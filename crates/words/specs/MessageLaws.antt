@@ -1,4 +1,4 @@
--- Laws of the message beside a request: it has at most eight words, and is read word by word.
+-- Laws of the message beside a request: it makes the request's step whole, has at most eight words, and is read word by word.
 use Rattle.std.specs.Prelude.{◌≡◌, refl, List, [], ◌∷◌, ◌++◌, true, ℕ, ◌+◌, ◌≤◌, ◌<◌, length, get_or, set, take, drop}
 use Rattle.std.proofs.Common.{ap, sym, ◌∙◌, add-one, arith, length-drop, take_all, take-suc, length-take-le, get_or-drop, leb-true}
 use Rattle.std.proofs.Math.Option.{Option, none, some}
@@ -15,11 +15,36 @@ use Rattle.words.specs.Reading.{reading_for, reading, message_on, words_in, mess
 use Rattle.words.specs.Written.{numbers_in}
 use Rattle.words.specs.MadeLaws.{made_good}
 
+-- a step is its request with its message
+pub step_back : (x : Step) → step_for (request_for x) (message_for x) ≡ x
+unfolding step_for request_for message_for
+step_back (task p) = refl
+step_back (mutex k) = refl
+step_back (sem n m) = refl
+step_back start = refl
+step_back (lock m t) = refl
+step_back (unlock m) = refl
+step_back (pend k t) = refl
+step_back (post k) = refl
+step_back (flush k) = refl
+step_back (sleep t) = refl
+step_back yield = refl
+step_back hold = refl
+step_back free = refl
+step_back tick = refl
+step_back (level i) = refl
+step_back (outcome i) = refl
+step_back (queue w d none) = refl
+step_back (queue w d (some o)) = refl
+step_back (send q t m) = refl
+step_back (receive q t) = refl
+step_back (word i n) = refl
+
 -- "14 for a send with no word or over 8"
 pub message_most : (x : Step) → is_formed x ≡ true → length (message_for x) ≤ held_words
 unfolding message_for is_formed
 message_most (task p) f = omega arith
-message_most (mutex k c) f = omega arith
+message_most (mutex k) f = omega arith
 message_most (sem n m) f = omega arith
 message_most start f = omega arith
 message_most (lock m t) f = omega arith
@@ -43,8 +68,7 @@ message_most (word i n) f = omega arith
 words_message : (x : Step) → is_formed x ≡ true → message_for (step_for (request_for x) (words_in (numbers_in x))) ≡ message_for x
 unfolding step_for request_for message_for numbers_in
 words_message (task p) f = refl
-words_message (mutex k none) f = refl
-words_message (mutex k (some c)) f = refl
+words_message (mutex k) f = refl
 words_message (sem n m) f = refl
 words_message start f = refl
 words_message (lock m t) f = refl

@@ -1,5 +1,5 @@
--- How a step is written: the one line that it has. WrittenLaws of `syntax` proves that the lines of formed steps, and no others, are steps: of a send
--- those with one to eight words, of a mutex those whose kind and ceiling belong together.
+-- How a step is written: the one line that it has. WrittenLaws of `syntax` proves that these lines, for a send those with one to eight words,
+-- and no others, are steps.
 use Rattle.std.specs.Prelude.{List, [], ◌∷◌, map, ℕ, ◌≤◌, get_or}
 use Rattle.std.proofs.Math.Option.{none, some}
 use Rattle.text.specs.Cut.{joined}
@@ -12,7 +12,7 @@ use Rattle.text.specs.Ascii.{ascii}
 -- "a step's name above"
 unfoldable pub name_of : Step → List ℕ
 name_of (task p) = ascii "task"
-name_of (mutex k c) = ascii "mutex"
+name_of (mutex k) = ascii "mutex"
 name_of (sem n m) = ascii "sem"
 name_of start = ascii "start"
 name_of (lock m t) = ascii "lock"
@@ -35,8 +35,7 @@ name_of (word i n) = ascii "word"
 -- "and its numbers"
 unfoldable pub numbers_in : Step → List ℕ
 numbers_in (task p) = p ∷ []
-numbers_in (mutex k none) = k ∷ []
-numbers_in (mutex k (some c)) = k ∷ c ∷ []
+numbers_in (mutex k) = k ∷ []
 numbers_in (sem n m) = n ∷ m ∷ []
 numbers_in start = []
 numbers_in (lock m t) = m ∷ t ∷ []

@@ -1,11 +1,10 @@
 // A step's name with its numbers to the step's request and the message beside it.
 ghost use Rattle.std.specs.Prelude.{◌≡◌, cond, [], ◌≤◌, ◌<◌, ltb, leb, length, get_or};
 ghost use Rattle.lists.specs.Test.{◌and◌};
-ghost use Rattle.rules.specs.Step.{mutex};
-ghost use Rattle.words.specs.Form.{with_ceiling, same_bytes, most_numbers};
-ghost use Rattle.words.specs.Reading.{reading_for, reading, short_name, few_numbers, words_in, message_in, message_with};
+ghost use Rattle.words.specs.Form.{same_bytes, most_numbers};
+ghost use Rattle.words.specs.Reading.{reading, short_name, few_numbers, words_in, message_in, message_with};
 
-use record::{CEILING, EIGHT, Request};
+use record::{EIGHT, Request};
 
 // The most bytes of a short name, and the most numbers of most words. A name is compared only with the words that are as short
 // or as long as it is and take as few or as many numbers: eight at most.
@@ -79,19 +78,6 @@ fn fits_send(n: usize) -> bool
     n <= MOST_NUMBERS
 }
 
-// A mutex with its ceiling where its kind has one, and else alone. A ceiling that is left out, or given to another kind, makes no step.
-fn made_mutex(numbers: &[u32]) -> Reading
-    ensures { result ≡ reading_for (with_ceiling mutex numbers.now) }
-{
-    let n = numbers.len();
-    let kind = number(numbers, 0);
-    if kind == CEILING as u32 {
-        let ceiling = number(numbers, 1);
-        return made_if(n == 2, Request::CeilingMutex { kind, ceiling });
-    }
-    made_if(n == 1, Request::Mutex { kind })
-}
-
 // A short name with more than one number. Each word decides how many it takes.
 fn short_more(name: &[u8], numbers: &[u32]) -> Reading
     requires name_len_bound { length name.now ≤ short_name }
@@ -161,9 +147,6 @@ fn long_more(name: &[u8], numbers: &[u32]) -> Reading
     ensures { result ≡ reading name.now numbers.now }
 {
     let n = numbers.len();
-    if same(name, b"mutex") {
-        return made_mutex(numbers);
-    }
     if same(name, b"queue") {
         let width = number(numbers, 0);
         let depth = number(numbers, 1);
@@ -196,7 +179,8 @@ fn long_word(name: &[u8], numbers: &[u32]) -> Reading
 {
     let n = numbers.len();
     if same(name, b"mutex") {
-        return made_mutex(numbers);
+        let kind = number(numbers, 0);
+        return made_if(n == 1, Request::Mutex { kind });
     }
     if same(name, b"start") {
         return made_if(n == 0, Request::Start);

@@ -7,7 +7,7 @@ use Rattle.calls.proofs.request_of.Statement.{statement}
 use Rattle.calls.proofs.request_of.Tie as tie
 
 returns : tie.Need-returns
-returns c = sym (beyond _ _ _ _ (past 21 _ (past 20 _ (past 19 _ (past 18 _ (past 17 _ (past 16 _ (past 15 _ (past 14 _ (past 13 _ (past 12 _ (past 11 _ (past 10 _ (past 9 _ (past 8 _ (past 7 _ (past 6 _ (past 5 _ (past 4 _ (past 3 _ (past 2 _ (past 1 _ (past 0 _ (omega arith) c.match.rest.0.0.0.0.0.0.0.0.0.0.0.0.0.0.0.0.0.0.0.0.0.1) c.match.rest.0.0.0.0.0.0.0.0.0.0.0.0.0.0.0.0.0.0.0.0.1) c.match.rest.0.0.0.0.0.0.0.0.0.0.0.0.0.0.0.0.0.0.0.1) c.match.rest.0.0.0.0.0.0.0.0.0.0.0.0.0.0.0.0.0.0.1) c.match.rest.0.0.0.0.0.0.0.0.0.0.0.0.0.0.0.0.0.1) c.match.rest.0.0.0.0.0.0.0.0.0.0.0.0.0.0.0.0.1) c.match.rest.0.0.0.0.0.0.0.0.0.0.0.0.0.0.0.1) c.match.rest.0.0.0.0.0.0.0.0.0.0.0.0.0.0.1) c.match.rest.0.0.0.0.0.0.0.0.0.0.0.0.0.1) c.match.rest.0.0.0.0.0.0.0.0.0.0.0.0.1) c.match.rest.0.0.0.0.0.0.0.0.0.0.0.1) c.match.rest.0.0.0.0.0.0.0.0.0.0.1) c.match.rest.0.0.0.0.0.0.0.0.0.1) c.match.rest.0.0.0.0.0.0.0.0.1) c.match.rest.0.0.0.0.0.0.0.1) c.match.rest.0.0.0.0.0.0.1) c.match.rest.0.0.0.0.0.1) c.match.rest.0.0.0.0.1) c.match.rest.0.0.0.1) c.match.rest.0.0.1) c.match.rest.0.1) c.match.rest.1))
+returns c = sym (beyond _ _ _ _ (past 20 _ (past 19 _ (past 18 _ (past 17 _ (past 16 _ (past 15 _ (past 14 _ (past 13 _ (past 12 _ (past 11 _ (past 10 _ (past 9 _ (past 8 _ (past 7 _ (past 6 _ (past 5 _ (past 4 _ (past 3 _ (past 2 _ (past 1 _ (past 0 _ (omega arith) c.match.rest.0.0.0.0.0.0.0.0.0.0.0.0.0.0.0.0.0.0.0.0.1) c.match.rest.0.0.0.0.0.0.0.0.0.0.0.0.0.0.0.0.0.0.0.1) c.match.rest.0.0.0.0.0.0.0.0.0.0.0.0.0.0.0.0.0.0.1) c.match.rest.0.0.0.0.0.0.0.0.0.0.0.0.0.0.0.0.0.1) c.match.rest.0.0.0.0.0.0.0.0.0.0.0.0.0.0.0.0.1) c.match.rest.0.0.0.0.0.0.0.0.0.0.0.0.0.0.0.1) c.match.rest.0.0.0.0.0.0.0.0.0.0.0.0.0.0.1) c.match.rest.0.0.0.0.0.0.0.0.0.0.0.0.0.1) c.match.rest.0.0.0.0.0.0.0.0.0.0.0.0.1) c.match.rest.0.0.0.0.0.0.0.0.0.0.0.1) c.match.rest.0.0.0.0.0.0.0.0.0.0.1) c.match.rest.0.0.0.0.0.0.0.0.0.1) c.match.rest.0.0.0.0.0.0.0.0.1) c.match.rest.0.0.0.0.0.0.0.1) c.match.rest.0.0.0.0.0.0.1) c.match.rest.0.0.0.0.0.1) c.match.rest.0.0.0.0.1) c.match.rest.0.0.0.1) c.match.rest.0.0.1) c.match.rest.0.1) c.match.rest.1))
 
 returns-2 : tie.Need-returns-2
 unfolding request_of
@@ -93,10 +93,6 @@ returns-22 : tie.Need-returns-22
 unfolding request_of
 returns-22 c = rw c.match.keys21 refl
 
-returns-23 : tie.Need-returns-23
-unfolding request_of
-returns-23 c = rw c.match.keys22 refl
-
 pub request_of_spec : {M : Type 1} → statement M
 request_of_spec =
     tie.close
@@ -122,5 +118,4 @@ request_of_spec =
     returns-19
     returns-20
     returns-21
-    returns-22
-    returns-23)
+    returns-22)

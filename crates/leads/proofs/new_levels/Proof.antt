@@ -11,17 +11,12 @@ heirs-of-requires c κs = search rules
 leads-of-requires : tie.Need-leads-of-requires
 leads-of-requires c κs = search rules
 
-own-levels-requires : tie.Need-own-levels-requires
-own-levels-requires c κs = search rules
-
 levels-of-requires : tie.Need-levels-of-requires
 levels-of-requires c κs = search rules
 
 returns : tie.Need-returns
 unfolding new_levels
-returns c x e =
-    let a = c.before.before.before.before.before.before.before.before.before.before.args in
-    rw (c.levels-of.ensures, c.before.before.own-levels.ensures a.t refl, c.before.before.before.before.leads-of.ensures, c.before.before.before.before.before.before.before.heirs-of.ensures, e) refl
+returns c x e = rw (c.levels-of.ensures, c.before.before.before.leads-of.ensures, c.before.before.before.before.before.before.heirs-of.ensures, e) refl
 
 pub new_levels_spec : {M : Type 1} → statement M
-new_levels_spec = tie.close (tie.spec heirs-of-requires leads-of-requires own-levels-requires levels-of-requires returns)
+new_levels_spec = tie.close (tie.spec heirs-of-requires leads-of-requires levels-of-requires returns)

@@ -15,9 +15,6 @@ returns c = simp (le-ltb _ _ c.if1.true)
 element-write-m : tie.Need-element-write-m
 element-write-m c = search rules
 
-element-write-m-2 : tie.Need-element-write-m-2
-element-write-m-2 c = search rules
-
 add-m : tie.Need-overflow-add-m
 add-m c = search rules
 
@@ -26,4 +23,4 @@ unfolding mutex_added
 returns-2 c = simp (lt-ltb _ _ c.if1.false)
 
 pub add_mutex_spec : {M : Type 1} → statement M
-add_mutex_spec = tie.close (tie.spec cast-i returns element-write-m element-write-m-2 add-m returns-2)
+add_mutex_spec = tie.close (tie.spec cast-i returns element-write-m add-m returns-2)

@@ -87,7 +87,7 @@ module _ {M : Type 1} {𝓤 : Ura M} (𝓛 : Logic 𝓤) (mem : Memory → SProp
   Post = (walk_of 𝓛 first-line.ended stayed (first-line.clauses 𝓛 mem run)).post (((κ, tt), (q, tt), tt, (s, tt), (v ∷ [], tt)), tt)
 
   abbrev Own : Fml
-  Own = Part.own_val s (v ∷ [])
+  Own = Part.own s (v ∷ [])
 
   -- the call of `over`: what it is passed, what it asks, and what is known of its result
   abbrev to-over : (Over 𝓛 mem run).Ghost
@@ -106,15 +106,15 @@ module _ {M : Type 1} {𝓤 : Ura M} (𝓛 : Logic 𝓤) (mem : Memory → SProp
   abbrev to-line : Reader → Val → (Line 𝓛 mem run).Ghost
   to-line r u = (((κ, tt), (q, tt), tt, (r, tt), (u ∷ [], tt)), tt)
 
-  goes-line : (r : Reader) (u : Val) → ent 𝓤 (⋆ 𝓛 (‵ ((held.Kind (κ, tt)).own_val r (u ∷ [])) ∷ (‵ (flft κ q) ⊛ ‵ ftrue) ∷ [])) ((Line 𝓛 mem run).pre (to-line r u))
-  goes-line r u = qed 𝓛 (‵ ((held.Kind (κ, tt)).own_val r (u ∷ [])) ∷ (‵ (flft κ q) ⊛ ‵ ftrue) ∷ []) ∵ nothing ! $ move ! (1 ∷ 0 ∷ []) $ fjoin ! $ move ! (1 ∷ 0 ∷ []) $ join ! $ frame ! $ done !
+  goes-line : (r : Reader) (u : Val) → ent 𝓤 (⋆ 𝓛 (‵ ((held.Kind (κ, tt)).own r (u ∷ [])) ∷ (‵ (flft κ q) ⊛ ‵ ftrue) ∷ [])) ((Line 𝓛 mem run).pre (to-line r u))
+  goes-line r u = qed 𝓛 (‵ ((held.Kind (κ, tt)).own r (u ∷ [])) ∷ (‵ (flft κ q) ⊛ ‵ ftrue) ∷ []) ∵ nothing ! $ move ! (1 ∷ 0 ∷ []) $ fjoin ! $ move ! (1 ∷ 0 ∷ []) $ join ! $ frame ! $ done !
 
   line-said : (r : Reader) (t : Bor (List ℕ)) → ent 𝓤 (ensured 𝓛 line.ended (line.clauses 𝓛 mem run) (κ, tt) (r, tt) tt t) (fact 𝓤 (t.now ≡ line_from r.text.now r.at))
   line-said r t = ex_e 𝓤 _ (λ ws. snd∗ 𝓤 (sem 𝓛 (lasts line.ended (κ, tt) (r, tt) ws)) (fact 𝓤 (t.now ≡ line_from r.text.now r.at)))
 
-  exits : (t : Bor (List ℕ)) (u : Val) → t.now ≡ found → ent 𝓤 (⋆ 𝓛 (‵ (Part.own_val t (u ∷ [])) ∷ (‵ (flft κ q) ⊛ ‵ ftrue) ∷ ‵ Own ∷ [])) (Post u)
+  exits : (t : Bor (List ℕ)) (u : Val) → t.now ≡ found → ent 𝓤 (⋆ 𝓛 (‵ (Part.own t (u ∷ [])) ∷ (‵ (flft κ q) ⊛ ‵ ftrue) ∷ ‵ Own ∷ [])) (Post u)
   exits t u e =
-      qed 𝓛 (‵ (Part.own_val t (u ∷ [])) ∷ (‵ (flft κ q) ⊛ ‵ ftrue) ∷ ‵ Own ∷ []) ∵
+      qed 𝓛 (‵ (Part.own t (u ∷ [])) ∷ (‵ (flft κ q) ⊛ ‵ ftrue) ∷ ‵ Own ∷ []) ∵
       suffices ! _ (ends_at 𝓛 first-line.ended stayed (first-line.clauses 𝓛 mem run) (((κ, tt), (q, tt), tt, (s, tt), (v ∷ [], tt)), tt) u t (tt, tt) (tt, tt)) $ says ! e $
       move ! (1 ∷ []) $ frame ! $ nothing ! $ move ! (2 ∷ 0 ∷ []) $ fjoin ! $ frame ! $ done !
 
@@ -129,14 +129,14 @@ module _ {M : Type 1} {𝓤 : Ura M} (𝓛 : Logic 𝓤) (mem : Memory → SProp
         alloc1 ! (λ l₀. alloc1 ! (λ l₁. alloc1 ! (λ l₂. alloc0 ! $ params1 ! $ pass1 ! (init ! 2 refl ((shr_slice_Lawful 𝓛 (named 0) κ u8).typed s (v ∷ []) p).0) $ pass0 ! $
         move ! (6 ∷ []) $ use1 𝓛 (raw ((Over 𝓛 mem run).pre to-over) ⊛ ‵ Own) goes_over $ split ! $
         calls_at ! fm (Over 𝓛 mem run) Known-over to-over (and_then ! (load ! (from ! (stop !)) (look ! 4 refl)) (no_more !)) (λ u.
-        use1 𝓛 (later (some (λ (r : Reader). ((‵ (flft κ q) ⊛ ‵ ftrue) ⊛ ‵ ((held.Kind (κ, tt)).own_val r (u ∷ []))) ⊛ raw (ensured 𝓛 over.ended (over.clauses 𝓛 mem run) (κ, tt) (s, tt) tt r)))) (id⊢ 𝓤 _) $ await ! tt $ pick ! (λ r.
+        use1 𝓛 (later (some (λ (r : Reader). ((‵ (flft κ q) ⊛ ‵ ftrue) ⊛ ‵ ((held.Kind (κ, tt)).own r (u ∷ []))) ⊛ raw (ensured 𝓛 over.ended (over.clauses 𝓛 mem run) (κ, tt) (s, tt) tt r)))) (id⊢ 𝓤 _) $ await ! tt $ pick ! (λ r.
         split ! $ move ! (1 ∷ []) $ use1 𝓛 (raw (fact 𝓤 ((r.text ≡ s) × (r.at ≡ 0)))) (over-said r) $ heard ! ((r.text ≡ s) × (r.at ≡ 0)) (λ e. split ! $ move ! (1 ∷ []) $
         -- [what the reader owns; the token; what s owns; room for _2; …; _1; …; room for _0; …]
         peeks ! (held.Kind (κ, tt)) (Is (held.Kind (κ, tt))) (shows 𝓛 (held.Kind (κ, tt))) r (u ∷ []) (λ is.
         land ! (from ! (stop !)) (init ! 3 refl ((LL.lawful (T.the_type αᵉ) (T'.the_laws αᵉ) 𝓛).typed r _ is).0) $
         use2 𝓛 (raw ((Line 𝓛 mem run).pre (to-line r u))) (goes-line r u) $
         calls_at ! fm (Line 𝓛 mem run) known-line (to-line r u) (and_then ! (load ! (from ! (stop !)) (look ! 2 refl)) (no_more !)) (λ u'.
-        use1 𝓛 (later (some (λ (t : Bor (List ℕ)). ((‵ (flft κ q) ⊛ ‵ ftrue) ⊛ ‵ (Part.own_val t (u' ∷ []))) ⊛ raw (ensured 𝓛 line.ended (line.clauses 𝓛 mem run) (κ, tt) (r, tt) tt t)))) (id⊢ 𝓤 _) $ await ! tt $ pick ! (λ t.
+        use1 𝓛 (later (some (λ (t : Bor (List ℕ)). ((‵ (flft κ q) ⊛ ‵ ftrue) ⊛ ‵ (Part.own t (u' ∷ []))) ⊛ raw (ensured 𝓛 line.ended (line.clauses 𝓛 mem run) (κ, tt) (r, tt) tt t)))) (id⊢ 𝓤 _) $ await ! tt $ pick ! (λ t.
         split ! $ move ! (1 ∷ []) $ use1 𝓛 (raw (fact 𝓤 (t.now ≡ line_from r.text.now r.at))) (line-said r t) $ heard ! (t.now ≡ line_from r.text.now r.at) (λ e'. split ! $ move ! (1 ∷ []) $
         -- [the result; the token; what s owns; _2; …; _1; …; room for _0; …]
         peeks ! Part (Is Part) (shows 𝓛 Part) t (u' ∷ []) (λ is'.

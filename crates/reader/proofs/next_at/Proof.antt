@@ -103,7 +103,7 @@ module _ {M : Type 1} {𝓤 : Ura M} (𝓛 : Logic 𝓤) (mem : Memory → SProp
         assigns ! (agg ! (and_then ! (load ! (from ! (stop !)) (look ! 6 refl)) (and_then ! (load ! (from ! (stop !)) (look ! 4 refl)) (no_more !)))) (from ! (stop !)) (init ! 0 refl (tt, (((shr_slice_Lawful 𝓛 (named 0) κ u8).typed s _ p).0.1, (record { fits = fits }, tt)))) $
         move ! (10 ∷ []) $ use1 𝓛 (raw ((Advance 𝓛 mem run).pre to) ⊛ ‵ (held.OwnText κ d)) (held.together κ d 𝓛 q ((Advance 𝓛 mem run).pre to) asked) $ split ! $
         calls_at ! fm (Advance 𝓛 mem run) known to (and_then ! (load ! (from ! (stop !)) (look ! 2 refl)) (no_more !)) (λ u.
-        use1 𝓛 (later (some (λ (r : Reader). ((‵ (flft κ q) ⊛ ‵ ftrue) ⊛ ‵ ((held.Kind (κ, tt)).own_val r (u ∷ []))) ⊛ raw (ensured 𝓛 advance.ended (advance.clauses 𝓛 mem run) (κ, tt) (d, tt) tt r)))) (id⊢ 𝓤 _) $ await ! tt $ pick ! (λ r.
+        use1 𝓛 (later (some (λ (r : Reader). ((‵ (flft κ q) ⊛ ‵ ftrue) ⊛ ‵ ((held.Kind (κ, tt)).own r (u ∷ []))) ⊛ raw (ensured 𝓛 advance.ended (advance.clauses 𝓛 mem run) (κ, tt) (d, tt) tt r)))) (id⊢ 𝓤 _) $ await ! tt $ pick ! (λ r.
         split ! $ move ! (1 ∷ []) $ use1 𝓛 (raw (fact 𝓤 ((r.text ≡ s) × (r.at ≡ found)))) (said r) $ heard ! ((r.text ≡ s) × (r.at ≡ found)) (λ e. split ! $ move ! (1 ∷ []) $
         -- [the reader behind the line; the token; what the text owns; _4; …; room for _3; …; _2; …; _1; …; room for _0; …]: the machine value of that reader is written out
         facts ! (held.Kind (κ, tt)) (Is (held.Kind (κ, tt))) (shows 𝓛 (held.Kind (κ, tt))) r (u ∷ []) (λ is.

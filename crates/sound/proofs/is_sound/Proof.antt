@@ -1,6 +1,6 @@
 -- `sound::is_sound` meets its contract: phrase by phrase, until one fails. Assumes nothing.
 use borrow.Author.Rules.{rules}
-use mathlib.Core.Path.{◌≡◌, refl, ap, sym, ◌∙◌}
+use mathlib.Core.Path.{◌≡◌, ap, sym, ◌∙◌}
 use mathlib.Core.Bool.{Bool, false}
 use mathlib.Core.List.{List}
 use Prim.Native.Nat.{ℕ}
@@ -53,19 +53,19 @@ waits-in-requires c κs = search rules
 returns-3 : tie.Need-returns-3
 unfolding checks ◌and◌
 returns-3 c =
-    let a = c.before.before.before.before.before.before.before.before.before.before.before.before.before.before.before.before.before.before.before.before.args in
-    let e : false ≡ checks a.s a.words.now a.space = rw (test_passed c.before.before.before.before.before.before.before.before.before.before.before.before.before.before.before.before.before.before.tables-in.ensures c.before.before.before.before.before.before.before.before.before.before.before.before.before.before.before.before.before.if1.false, test_passed c.before.before.before.before.before.before.before.places-in.ensures c.before.before.before.before.before.before.if2.false, test_failed c.before.Waits-in.ensures c.if3.true) in
-    told a.s _ a.words.now a.space c.before.before.before.before.before.before.before.before.before.before.before.before.before.before.before.before.before.before.before.before.well-formed.0 e
+    let a = c.before.before.before.before.before.before.before.before.before.before.before.before.before.before.before.before.before.before.args in
+    let e : false ≡ checks a.s a.words.now a.space = rw (test_passed c.before.before.before.before.before.before.before.before.before.before.before.before.before.before.before.before.tables-in.ensures c.before.before.before.before.before.before.before.before.before.before.before.before.before.before.before.if1.false, test_passed c.before.before.before.before.before.places-in.ensures c.before.before.before.before.if2.false, test_failed c.before.Waits-in.ensures c.if3.true) in
+    told a.s _ a.words.now a.space c.before.before.before.before.before.before.before.before.before.before.before.before.before.before.before.before.before.before.well-formed.0 e
 
-owned-in-requires : tie.Need-owned-in-requires
-owned-in-requires c κs = search rules
+levels-in-requires : tie.Need-levels-in-requires
+levels-in-requires c κs = search rules
 
 returns-4 : tie.Need-returns-4
 unfolding checks ◌and◌
 returns-4 c =
-    let a = c.before.before.before.before.before.before.before.before.before.before.before.before.before.before.before.before.before.before.before.before.before.before.before.before.before.before.args in
-    let e : false ≡ checks a.s a.words.now a.space = rw (test_passed c.before.before.before.before.before.before.before.before.before.before.before.before.before.before.before.before.before.before.before.before.before.before.before.before.tables-in.ensures c.before.before.before.before.before.before.before.before.before.before.before.before.before.before.before.before.before.before.before.before.before.before.before.if1.false, test_passed c.before.before.before.before.before.before.before.before.before.before.before.before.before.places-in.ensures c.before.before.before.before.before.before.before.before.before.before.before.before.if2.false, test_passed c.before.before.before.before.before.before.before.Waits-in.ensures c.before.before.before.before.before.before.if3.false, test_failed (c.before.owned_in.ensures a.s.tasks refl) c.if4.true) in
-    told a.s _ a.words.now a.space c.before.before.before.before.before.before.before.before.before.before.before.before.before.before.before.before.before.before.before.before.before.before.before.before.before.before.well-formed.0 e
+    let a = c.before.before.before.before.before.before.before.before.before.before.before.before.before.before.before.before.before.before.before.before.before.before.before.before.before.args in
+    let e : false ≡ checks a.s a.words.now a.space = rw (test_passed c.before.before.before.before.before.before.before.before.before.before.before.before.before.before.before.before.before.before.before.before.before.before.before.tables-in.ensures c.before.before.before.before.before.before.before.before.before.before.before.before.before.before.before.before.before.before.before.before.before.before.if1.false, test_passed c.before.before.before.before.before.before.before.before.before.before.before.before.places-in.ensures c.before.before.before.before.before.before.before.before.before.before.before.if2.false, test_passed c.before.before.before.before.before.before.before.before.Waits-in.ensures c.before.before.before.before.before.before.before.if3.false, test_failed c.before.levels-in.ensures c.if4.true) in
+    told a.s _ a.words.now a.space c.before.before.before.before.before.before.before.before.before.before.before.before.before.before.before.before.before.before.before.before.before.before.before.before.before.well-formed.0 e
 
 ascending-requires : tie.Need-ascending-requires
 ascending-requires c κs = search rules
@@ -73,9 +73,9 @@ ascending-requires c κs = search rules
 returns-5 : tie.Need-returns-5
 unfolding checks ◌and◌
 returns-5 c =
-    let a = c.before.before.before.before.before.before.before.before.before.before.before.before.before.before.before.before.before.before.before.before.before.before.before.before.before.before.before.before.args in
-    let e : false ≡ checks a.s a.words.now a.space = rw (test_passed c.before.before.before.before.before.before.before.before.before.before.before.before.before.before.before.before.before.before.before.before.before.before.before.before.before.before.tables-in.ensures c.before.before.before.before.before.before.before.before.before.before.before.before.before.before.before.before.before.before.before.before.before.before.before.before.before.if1.false, test_passed c.before.before.before.before.before.before.before.before.before.before.before.before.before.before.before.places-in.ensures c.before.before.before.before.before.before.before.before.before.before.before.before.before.before.if2.false, test_passed c.before.before.before.before.before.before.before.before.before.Waits-in.ensures c.before.before.before.before.before.before.before.before.if3.false, test_passed (c.before.before.before.owned_in.ensures a.s.tasks refl) c.before.before.if4.false, test_failed c.before.ascending.ensures c.if5.true) in
-    told a.s _ a.words.now a.space c.before.before.before.before.before.before.before.before.before.before.before.before.before.before.before.before.before.before.before.before.before.before.before.before.before.before.before.before.well-formed.0 e
+    let a = c.before.before.before.before.before.before.before.before.before.before.before.before.before.before.before.before.before.before.before.before.before.before.before.before.before.before.before.args in
+    let e : false ≡ checks a.s a.words.now a.space = rw (test_passed c.before.before.before.before.before.before.before.before.before.before.before.before.before.before.before.before.before.before.before.before.before.before.before.before.before.tables-in.ensures c.before.before.before.before.before.before.before.before.before.before.before.before.before.before.before.before.before.before.before.before.before.before.before.before.if1.false, test_passed c.before.before.before.before.before.before.before.before.before.before.before.before.before.before.places-in.ensures c.before.before.before.before.before.before.before.before.before.before.before.before.before.if2.false, test_passed c.before.before.before.before.before.before.before.before.before.before.Waits-in.ensures c.before.before.before.before.before.before.before.before.before.if3.false, test_passed c.before.before.before.levels-in.ensures c.before.before.if4.false, test_failed c.before.ascending.ensures c.if5.true) in
+    told a.s _ a.words.now a.space c.before.before.before.before.before.before.before.before.before.before.before.before.before.before.before.before.before.before.before.before.before.before.before.before.before.before.before.well-formed.0 e
 
 started-in-requires : tie.Need-started-in-requires
 started-in-requires c κs = search rules
@@ -83,9 +83,9 @@ started-in-requires c κs = search rules
 returns-6 : tie.Need-returns-6
 unfolding checks ◌and◌
 returns-6 c =
-    let a = c.before.before.before.before.before.before.before.before.before.before.before.before.before.before.before.before.before.before.before.before.before.before.before.before.before.before.before.before.before.before.before.args in
-    let e : c.started-in.result ≡ checks a.s a.words.now a.space = rw (test_passed c.before.before.before.before.before.before.before.before.before.before.before.before.before.before.before.before.before.before.before.before.before.before.before.before.before.before.before.before.before.tables-in.ensures c.before.before.before.before.before.before.before.before.before.before.before.before.before.before.before.before.before.before.before.before.before.before.before.before.before.before.before.before.if1.false, test_passed c.before.before.before.before.before.before.before.before.before.before.before.before.before.before.before.before.before.before.places-in.ensures c.before.before.before.before.before.before.before.before.before.before.before.before.before.before.before.before.before.if2.false, test_passed c.before.before.before.before.before.before.before.before.before.before.before.before.Waits-in.ensures c.before.before.before.before.before.before.before.before.before.before.before.if3.false, test_passed (c.before.before.before.before.before.before.owned_in.ensures a.s.tasks refl) c.before.before.before.before.before.if4.false, test_passed c.before.before.before.before.ascending.ensures c.before.before.before.if5.false, ne_eqb _ _ c.before.if6.true) c.started-in.ensures in
-    told a.s _ a.words.now a.space c.before.before.before.before.before.before.before.before.before.before.before.before.before.before.before.before.before.before.before.before.before.before.before.before.before.before.before.before.before.before.before.well-formed.0 e
+    let a = c.before.before.before.before.before.before.before.before.before.before.before.before.before.before.before.before.before.before.before.before.before.before.before.before.before.before.before.before.before.before.args in
+    let e : c.started-in.result ≡ checks a.s a.words.now a.space = rw (test_passed c.before.before.before.before.before.before.before.before.before.before.before.before.before.before.before.before.before.before.before.before.before.before.before.before.before.before.before.before.tables-in.ensures c.before.before.before.before.before.before.before.before.before.before.before.before.before.before.before.before.before.before.before.before.before.before.before.before.before.before.before.if1.false, test_passed c.before.before.before.before.before.before.before.before.before.before.before.before.before.before.before.before.before.places-in.ensures c.before.before.before.before.before.before.before.before.before.before.before.before.before.before.before.before.if2.false, test_passed c.before.before.before.before.before.before.before.before.before.before.before.before.before.Waits-in.ensures c.before.before.before.before.before.before.before.before.before.before.before.before.if3.false, test_passed c.before.before.before.before.before.before.levels-in.ensures c.before.before.before.before.before.if4.false, test_passed c.before.before.before.before.ascending.ensures c.before.before.before.if5.false, ne_eqb _ _ c.before.if6.true) c.started-in.ensures in
+    told a.s _ a.words.now a.space c.before.before.before.before.before.before.before.before.before.before.before.before.before.before.before.before.before.before.before.before.before.before.before.before.before.before.before.before.before.before.well-formed.0 e
 
 at-rest-requires : tie.Need-at-rest-requires
 at-rest-requires c κs = search rules
@@ -93,9 +93,9 @@ at-rest-requires c κs = search rules
 returns-7 : tie.Need-returns-7
 unfolding checks ◌and◌
 returns-7 c =
-    let a = c.before.before.before.before.before.before.before.before.before.before.before.before.before.before.before.before.before.before.before.before.before.before.before.before.before.before.before.before.before.before.before.before.args in
-    let e : false ≡ checks a.s a.words.now a.space = rw (test_passed c.before.before.before.before.before.before.before.before.before.before.before.before.before.before.before.before.before.before.before.before.before.before.before.before.before.before.before.before.before.before.tables-in.ensures c.before.before.before.before.before.before.before.before.before.before.before.before.before.before.before.before.before.before.before.before.before.before.before.before.before.before.before.before.before.if1.false, test_passed c.before.before.before.before.before.before.before.before.before.before.before.before.before.before.before.before.before.before.before.places-in.ensures c.before.before.before.before.before.before.before.before.before.before.before.before.before.before.before.before.before.before.if2.false, test_passed c.before.before.before.before.before.before.before.before.before.before.before.before.before.Waits-in.ensures c.before.before.before.before.before.before.before.before.before.before.before.before.if3.false, test_passed (c.before.before.before.before.before.before.before.owned_in.ensures a.s.tasks refl) c.before.before.before.before.before.before.if4.false, test_passed c.before.before.before.before.before.ascending.ensures c.before.before.before.before.if5.false, eq-eqb _ _ c.before.before.if6.false, test_failed c.before.at_rest.ensures c.if7.true) in
-    told a.s _ a.words.now a.space c.before.before.before.before.before.before.before.before.before.before.before.before.before.before.before.before.before.before.before.before.before.before.before.before.before.before.before.before.before.before.before.before.well-formed.0 e
+    let a = c.before.before.before.before.before.before.before.before.before.before.before.before.before.before.before.before.before.before.before.before.before.before.before.before.before.before.before.before.before.before.before.args in
+    let e : false ≡ checks a.s a.words.now a.space = rw (test_passed c.before.before.before.before.before.before.before.before.before.before.before.before.before.before.before.before.before.before.before.before.before.before.before.before.before.before.before.before.before.tables-in.ensures c.before.before.before.before.before.before.before.before.before.before.before.before.before.before.before.before.before.before.before.before.before.before.before.before.before.before.before.before.if1.false, test_passed c.before.before.before.before.before.before.before.before.before.before.before.before.before.before.before.before.before.before.places-in.ensures c.before.before.before.before.before.before.before.before.before.before.before.before.before.before.before.before.before.if2.false, test_passed c.before.before.before.before.before.before.before.before.before.before.before.before.before.before.Waits-in.ensures c.before.before.before.before.before.before.before.before.before.before.before.before.before.if3.false, test_passed c.before.before.before.before.before.before.before.levels-in.ensures c.before.before.before.before.before.before.if4.false, test_passed c.before.before.before.before.before.ascending.ensures c.before.before.before.before.if5.false, eq-eqb _ _ c.before.before.if6.false, test_failed c.before.at_rest.ensures c.if7.true) in
+    told a.s _ a.words.now a.space c.before.before.before.before.before.before.before.before.before.before.before.before.before.before.before.before.before.before.before.before.before.before.before.before.before.before.before.before.before.before.before.well-formed.0 e
 
 set-up-in-requires : tie.Need-set-up-in-requires
 set-up-in-requires c κs = search rules
@@ -103,9 +103,9 @@ set-up-in-requires c κs = search rules
 returns-8 : tie.Need-returns-8
 unfolding checks ◌and◌
 returns-8 c =
-    let a = c.before.before.before.before.before.before.before.before.before.before.before.before.before.before.before.before.before.before.before.before.before.before.before.before.before.before.before.before.before.before.before.before.before.before.before.before.args in
-    let e : c.set-up-in.result ≡ checks a.s a.words.now a.space = rw (test_passed c.before.before.before.before.before.before.before.before.before.before.before.before.before.before.before.before.before.before.before.before.before.before.before.before.before.before.before.before.before.before.before.before.before.before.tables-in.ensures c.before.before.before.before.before.before.before.before.before.before.before.before.before.before.before.before.before.before.before.before.before.before.before.before.before.before.before.before.before.before.before.before.before.if1.false, test_passed c.before.before.before.before.before.before.before.before.before.before.before.before.before.before.before.before.before.before.before.before.before.before.before.places-in.ensures c.before.before.before.before.before.before.before.before.before.before.before.before.before.before.before.before.before.before.before.before.before.before.if2.false, test_passed c.before.before.before.before.before.before.before.before.before.before.before.before.before.before.before.before.before.Waits-in.ensures c.before.before.before.before.before.before.before.before.before.before.before.before.before.before.before.before.if3.false, test_passed (c.before.before.before.before.before.before.before.before.before.before.before.owned_in.ensures a.s.tasks refl) c.before.before.before.before.before.before.before.before.before.before.if4.false, test_passed c.before.before.before.before.before.before.before.before.before.ascending.ensures c.before.before.before.before.before.before.before.before.if5.false, eq-eqb _ _ c.before.before.before.before.before.before.if6.false, test_passed c.before.before.before.before.before.at_rest.ensures c.before.before.before.before.if7.false) c.set-up-in.ensures in
-    told a.s _ a.words.now a.space c.before.before.before.before.before.before.before.before.before.before.before.before.before.before.before.before.before.before.before.before.before.before.before.before.before.before.before.before.before.before.before.before.before.before.before.before.well-formed.0 e
+    let a = c.before.before.before.before.before.before.before.before.before.before.before.before.before.before.before.before.before.before.before.before.before.before.before.before.before.before.before.before.before.before.before.before.before.before.before.args in
+    let e : c.set-up-in.result ≡ checks a.s a.words.now a.space = rw (test_passed c.before.before.before.before.before.before.before.before.before.before.before.before.before.before.before.before.before.before.before.before.before.before.before.before.before.before.before.before.before.before.before.before.before.tables-in.ensures c.before.before.before.before.before.before.before.before.before.before.before.before.before.before.before.before.before.before.before.before.before.before.before.before.before.before.before.before.before.before.before.before.if1.false, test_passed c.before.before.before.before.before.before.before.before.before.before.before.before.before.before.before.before.before.before.before.before.before.before.places-in.ensures c.before.before.before.before.before.before.before.before.before.before.before.before.before.before.before.before.before.before.before.before.before.if2.false, test_passed c.before.before.before.before.before.before.before.before.before.before.before.before.before.before.before.before.before.before.Waits-in.ensures c.before.before.before.before.before.before.before.before.before.before.before.before.before.before.before.before.before.if3.false, test_passed c.before.before.before.before.before.before.before.before.before.before.before.levels-in.ensures c.before.before.before.before.before.before.before.before.before.before.if4.false, test_passed c.before.before.before.before.before.before.before.before.before.ascending.ensures c.before.before.before.before.before.before.before.before.if5.false, eq-eqb _ _ c.before.before.before.before.before.before.if6.false, test_passed c.before.before.before.before.before.at_rest.ensures c.before.before.before.before.if7.false) c.set-up-in.ensures in
+    told a.s _ a.words.now a.space c.before.before.before.before.before.before.before.before.before.before.before.before.before.before.before.before.before.before.before.before.before.before.before.before.before.before.before.before.before.before.before.before.before.before.before.well-formed.0 e
 
 pub is_sound_spec : {M : Type 1} → statement M
 is_sound_spec =
@@ -117,7 +117,7 @@ is_sound_spec =
     returns-2
     waits-in-requires
     returns-3
-    owned-in-requires
+    levels-in-requires
     returns-4
     ascending-requires
     returns-5

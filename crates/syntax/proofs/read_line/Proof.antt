@@ -63,8 +63,8 @@ returns-3 c =
     let bad = c.before in
     let parsing = bad.before.before in
     let inside = parsing.before.before.before in
-    let none_there = line_bad _ _ _ _ inside.before.loop.invariant.2 inside.loop-test.true _ parsing.before.piece.ensures (sym parsing.parse.ensures ∙ bad.enum_told.given.1) in
-    c.no-step3.ensures ∙ ap line_read none_there
+    let none-there = line_bad _ _ _ _ inside.before.loop.invariant.2 inside.loop-test.true _ parsing.before.piece.ensures (sym parsing.parse.ensures ∙ bad.enum_told.given.1) in
+    c.no-step3.ensures ∙ ap line_read none-there
 
 mul-values : tie.Need-overflow-mul-values invariant-loop decreases-loop
 mul-values c = search rules

@@ -16,7 +16,7 @@ abbrev decreases-loop : tie.decreases-loop
 decreases-loop to level l₀ i₀ l i = task_places - i
 
 loop-holds : tie.Need-loop-init invariant-loop decreases-loop
-loop-holds c = let a = c.args in (search rules, lent_none a.own_val a.to.now a.level.now)
+loop-holds c = let a = c.args in (search rules, lent_none a.own a.to.now a.level.now)
 
 element-copy-out-lend : tie.Need-element-copy-out-lend invariant-loop decreases-loop
 element-copy-out-lend c = search rules
@@ -37,13 +37,13 @@ loop-again : tie.Need-loop-preserved invariant-loop decreases-loop
 loop-again c =
     let a = c.before.before.before.before.before.before.args in
     let s = c.before.before.before.before.before.loop in
-    (search rules, lent_step a.own_val a.to.now a.level.now s.l c.lend.new.0 s.i s.invariant.1 c.lend.ensures)
+    (search rules, lent_step a.own a.to.now a.level.now s.l c.lend.new.0 s.i s.invariant.1 c.lend.ensures)
 
 returns : tie.Need-returns invariant-loop decreases-loop
 returns c =
     let a = c.before.before.args in
     let s = c.before.loop in
-    lent_done a.own_val a.to.now a.level.now s.l s.i task_places (omega arith) s.invariant.1
+    lent_done a.own a.to.now a.level.now s.l s.i task_places (omega arith) s.invariant.1
 
 pub lent_levels_spec : {M : Type 1} → statement M
 lent_levels_spec =
