@@ -1,5 +1,7 @@
 // Bytes that arrive in any pieces, cut into lines. A line that lies wholly in one arrival is a part of it, with no
 // copy; the bytes of a line that is split over arrivals are kept in a lent carry, whose length is the longest line.
+#![tactic(auto)]
+
 ghost use Rattle.std.specs.Prelude.{◌≡◌};
 ghost use Rattle.text.specs.Place.{put_bytes};
 ghost use Rattle.arrive.specs.Feed.{kept_len, line_found, line_carry, fed, carry_after, last_found, found_line};

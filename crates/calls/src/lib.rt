@@ -1,4 +1,6 @@
 // A step by its code, on a record by value, with its words and the block in lent memory.
+#![tactic(auto)]
+
 ghost use Rattle.std.specs.Prelude.{◌≡◌, List, ℕ, length};
 ghost use Rattle.record.specs.Whole.{whole};
 ghost use Rattle.machine.specs.Planned.{carried};

@@ -1,7 +1,7 @@
 -- Laws of chains: they are unique, hold nothing twice, and end after a change from whose places the new chain ends.
 use Rattle.std.specs.Prelude.{◌≡◌, List, [], ◌∷◌, true, ◌⊎◌, length}
 use Rattle.std.proofs.Math.Path.{refl, ap}
-use Rattle.std.proofs.Common.{sym, ◌∙◌, inl, inr}
+use Rattle.std.proofs.Common.{sym, subst, ◌∙◌, inl, inr}
 use Rattle.std.proofs.Math.Option.{Option, none, some}
 use Prim.Native.Nat.{ℕ, zero, suc, ◌+◌, ◌≤◌, ◌<◌}
 use native.Mathlib.Omega.{arith}
@@ -35,10 +35,12 @@ module _ {next : ℕ → Option ℕ} where
 
   pub from_mem : {o : Option ℕ} {l : List ℕ} {k : ℕ} → Chain next o l → From next o k → 1 ≤ occ k l
   unfolding occ
+  from_mem end g = elim g [ ]
   from_mem (link {i = i} c) here = omega (arith, eqn_at i i refl)
   from_mem (link c) (on g) = omega (arith, from_mem c g)
 
   suffix : {o : Option ℕ} {l : List ℕ} {k : ℕ} → Chain next o l → From next o k → (l' : List ℕ) × Chain next (some k) l' × (length l' ≤ length l)
+  suffix end g = elim g [ ]
   suffix (link {i = i} {l = l} c) here = (i ∷ l, link c, omega arith)
   suffix (link c) (on g) = let r = suffix c g in (r.0, r.1, omega arith)
 
@@ -53,7 +55,7 @@ module _ {next : ℕ → Option ℕ} where
   unfolding occ
   distinct end y = omega arith
   distinct (link {i = i} {l = l} c) y = elim (ℕ_discrete i y) [
-    | yes e ↦ rw (← e) (omega (arith, not_again i c, eqn_at i i refl))
+    | yes e ↦ subst (λ (z : ℕ). occ z (i ∷ l) ≤ 1) e (omega (arith, not_again i c, eqn_at i i refl))
     | no n ↦ omega (arith, distinct c y, eqn_other i y n)
   ]
 
@@ -76,7 +78,7 @@ module _ {next : ℕ → Option ℕ} where
   unfolding occ
   before_short n r h b {l = l} c k = pigeonhole n (r ∷ before r l)
       (λ y. elim (ℕ_discrete r y) [
-        | yes e ↦ rw (← e) (omega (arith, eqn_at r r refl, before_without r l))
+        | yes e ↦ subst (λ (z : ℕ). occ z (r ∷ before r l) ≤ 1) e (omega (arith, eqn_at r r refl, before_without r l))
         | no q ↦ omega (arith, eqn_other r y q, occ_before r y l, distinct c y)
       ])
       (λ y m. elim (ℕ_discrete r y) [

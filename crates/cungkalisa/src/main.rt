@@ -1,4 +1,6 @@
 // Replays a script: standard input to standard output. All that matters is in the library `script`.
+#![tactic(auto)]
+
 ghost use Rattle.std.specs.Prelude.{◌≤◌, length};
 ghost use Rattle.log_lines.specs.LogLine.{line_room};
 

@@ -1,4 +1,6 @@
 // Decimal numbers: 32 bits, no sign, no needless leading zero.
+#![tactic(auto)]
+
 ghost use Rattle.std.specs.Prelude.{◌≡◌, length};
 ghost use Rattle.text.specs.Place.{put_answer, put_bytes};
 ghost use Rattle.decimal.specs.Decimal.{decimal};

@@ -1,4 +1,6 @@
 // The kernel for firmware: one state record, changed where it lies by functions that C can call.
+#![tactic(auto)]
+
 mod answers;
 mod by_value;
 mod in_place;

@@ -1,4 +1,6 @@
 // Tests joined without a branch: both sides are worked out before, so that a loop over a table becomes a few operations on all its places at once.
+#![tactic(auto)]
+
 ghost use Rattle.std.specs.Prelude.{◌≡◌, cond};
 ghost use Rattle.lists.specs.Test.{◌and◌, ◌or◌};
 

@@ -1,4 +1,6 @@
 // The kernel: the step that takes any record and any request, and the refusals that no step gives.
+#![tactic(auto)]
+
 pub mod refused;
 
 ghost use Rattle.std.specs.Prelude.{◌≡◌};

@@ -1,4 +1,6 @@
 // Steps through the edges that document 01 wants run, through those of document 02's queues, and through damaged records, and prints what comes back.
+#![tactic(auto)]
+
 mod damaged;
 mod damaged_queues;
 mod edges;

@@ -1,4 +1,6 @@
 // Who leads to whom by what each task waits for, and the levels that follow.
+#![tactic(auto)]
+
 ghost use Rattle.std.specs.Prelude.{◌≡◌, cond, not, ltb, eqb, length, get_or};
 ghost use Rattle.lists.specs.Test.{◌or◌, allb};
 ghost use Rattle.lists.specs.Table.{filled};

@@ -1,4 +1,6 @@
 // The word of level marks of a ready order, and the first ready level worked out from it.
+#![tactic(auto)]
+
 ghost use Rattle.std.specs.Prelude.{◌≡◌};
 ghost use Rattle.task_lists.specs.TaskList.{items};
 ghost use Rattle.level_marks.specs.Marks.{level_at, mark_of, marks_in, first_marked};

@@ -1,6 +1,6 @@
 -- Laws of ordered lists: counts and order after an insertion, the stable order, what a test keeps, the first of least key.
 use Rattle.std.specs.Prelude.{◌≡◌, refl, List, [], ◌∷◌, ◌++◌, Bool, true, false, not, ℕ, zero, suc, ◌+◌, ◌≤◌, ◌<◌, ltb, eqb, length, get_or, take}
-use Rattle.std.proofs.Common.{ap, sym, ◌∙◌, append-nil, inl, inr, arith, length-append, take_all, ltb-true, ltb-false, leb-true, leb-false, eqb-true, lt-ltb, le-ltb, le-leb, eq-eqb, ne_eqb}
+use Rattle.std.proofs.Common.{ap, subst, sym, ◌∙◌, append-nil, inl, inr, arith, length-append, take_all, ltb-true, ltb-false, leb-true, leb-false, eqb-true, lt-ltb, le-ltb, le-leb, eq-eqb, ne_eqb}
 use Rattle.std.proofs.Math.Option.{none, some}
 use Rattle.std.proofs.Math.Decide.{ℕ_discrete, dec_lt}
 use Rattle.std.proofs.Math.Seq.{append_snoc}
@@ -268,8 +268,8 @@ least_in : (f : ℕ → ℕ) (x : ℕ) (l : List ℕ) → 1 ≤ occ (least_of f 
 unfolding least_of occ
 least_in f x [] = omega (arith, eqn_at x x refl)
 least_in f x (y ∷ l) = elim (which (ltb (f y) (f x))) [
-  | inl e ↦ rw e (omega (arith, least_in f y l))
-  | inr e ↦ rw e (omega (arith, least_in f x l))
+  | inl e ↦ let q : least_of f x (y ∷ l) ≡ least_of f y l = rw e refl in subst (λ (w : ℕ). 1 ≤ occ w (x ∷ y ∷ l)) (sym q) (omega (arith, least_in f y l))
+  | inr e ↦ let q : least_of f x (y ∷ l) ≡ least_of f x l = rw e refl in subst (λ (w : ℕ). 1 ≤ occ w (x ∷ y ∷ l)) (sym q) (omega (arith, least_in f x l))
 ]
 
 pub least_some : (f : ℕ → ℕ) (l : List ℕ) (w : ℕ) → least_first f l ≡ some w → 1 ≤ occ w l

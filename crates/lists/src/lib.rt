@@ -1,1 +1,2 @@
 // Lists, counts, orders and tables: definitions and laws only (see specs/).
+#![tactic(auto)]

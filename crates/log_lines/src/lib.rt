@@ -1,4 +1,6 @@
 // Log lines at the front of lent memory, whole or not at all.
+#![tactic(auto)]
+
 ghost use Rattle.std.specs.Prelude.{◌≡◌, length};
 ghost use Rattle.decimal.specs.Decimal.{decimal};
 ghost use Rattle.text.specs.Place.{put_answer, put_bytes};

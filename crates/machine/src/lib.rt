@@ -1,4 +1,6 @@
 // What each step does to a record, as definitions, and the laws that on a sound record this is the rule. In code: the parts of a record that `settle` gives to a step.
+#![tactic(auto)]
+
 use record::TASKS;
 use task_lists::TaskList;
 

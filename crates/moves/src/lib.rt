@@ -1,4 +1,6 @@
 // What a step moves once it stands: a message to the words that a task holds, or to and from its place in the lent block.
+#![tactic(auto)]
+
 mod fits;
 
 ghost use Rattle.std.specs.Prelude.{◌≡◌, ◌+◌, ◌≤◌, length, get_or};

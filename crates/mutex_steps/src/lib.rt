@@ -1,4 +1,6 @@
 // The steps on mutexes: the refusals in the order of the table, then what the step does.
+#![tactic(auto)]
+
 ghost use Rattle.std.specs.Prelude.{◌≡◌};
 ghost use Rattle.machine.specs.Machine.{lock_step, unlock_step};
 

@@ -1,4 +1,6 @@
 // Tasks, mutexes, semaphores and queues made, and what is theirs changed.
+#![tactic(auto)]
+
 ghost use Rattle.std.specs.Prelude.{◌≡◌};
 ghost use Rattle.machine.specs.Machine.{owner_set, count_set, used_set, oldest_set, task_added, mutex_added, sem_added, queue_added};
 

@@ -1,4 +1,6 @@
 // Yield, hold and free, level, outcome, word: the refusals in the order of the table, then what the step does.
+#![tactic(auto)]
+
 ghost use Rattle.std.specs.Prelude.{◌≡◌};
 ghost use Rattle.machine.specs.Machine.{yield_step, hold_step, free_step, level_step, outcome_step, word_step};
 

@@ -1,4 +1,6 @@
 // What stands at a queue's place, and where its messages lie in the lent block: for a number that is no place, what an unused one holds.
+#![tactic(auto)]
+
 ghost use Rattle.std.specs.Prelude.{◌≡◌, ◌*◌, ◌≤◌};
 ghost use Rattle.rings.specs.Starts.{queue_places, area_most, start_in};
 ghost use Rattle.record.specs.Reads.{queue_owner_at};

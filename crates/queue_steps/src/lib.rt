@@ -1,4 +1,6 @@
 // The steps on message queues: the refusals in the order of the table, then what the step does. Words of messages move afterwards (`moves`).
+#![tactic(auto)]
+
 ghost use Rattle.std.specs.Prelude.{◌≡◌, ◌<◌};
 ghost use Rattle.rules.specs.Sizes.{on_send, on_receive};
 ghost use Rattle.record.specs.declared.Queues.{Queues};

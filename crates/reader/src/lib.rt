@@ -1,6 +1,8 @@
 // A reader keeps a lent text together with its place in it, and hands out the text's lines as parts of it.
 // A function over a struct that holds a reference is proved by hand, step by step of its code. So those here are thin: each
 // takes the reader apart, or makes one, and calls a function with the slice and the number, which does the work.
+#![tactic(auto)]
+
 pub mod whole;
 
 ghost use Rattle.std.specs.Prelude.{◌≡◌, [], get_or};

@@ -1,4 +1,6 @@
 // Prints the lines that the reader finds in a few texts, to be compared with the stored output.
+#![tactic(auto)]
+
 use libc::STDOUT_FILENO;
 use reader::whole;
 

@@ -1,4 +1,6 @@
 // The state record, requests and answers.
+#![tactic(auto)]
+
 pub mod answers;
 mod first;
 pub mod reads;

@@ -1,4 +1,6 @@
 // Message queues as rings in a lent block of words (see specs/), and where each queue begins.
+#![tactic(auto)]
+
 ghost use Rattle.std.specs.Prelude.{◌≡◌, ◌*◌, ◌≤◌};
 ghost use Rattle.rings.specs.Ring.{slot_of};
 ghost use Rattle.rings.specs.Starts.{area_most, at_most_all, start_in};

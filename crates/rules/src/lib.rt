@@ -1,1 +1,2 @@
 // The rules of the kernel: definitions and theorems only (see specs/).
+#![tactic(auto)]

@@ -1,2 +1,4 @@
 // Scripts whose bytes arrive in any pieces.
+#![tactic(auto)]
+
 pub mod session;

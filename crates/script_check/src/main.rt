@@ -1,5 +1,7 @@
 // Runs scripts that lie whole in lent memory, a line at a time by its place, sessions with too little lent memory, and some with a record that isn't
 // sound; what they write is compared with the stored output.
+#![tactic(auto)]
+
 mod stops;
 mod unsound;
 

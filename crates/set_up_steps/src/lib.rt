@@ -1,4 +1,6 @@
 // The steps of set-up, creation and start: the refusals in the order of the table, then what the step does.
+#![tactic(auto)]
+
 mod room;
 
 ghost use Rattle.std.specs.Prelude.{◌≡◌};

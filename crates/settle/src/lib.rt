@@ -1,4 +1,6 @@
 // After each accepted step: levels, the ready order, and who runs. Parts of the record come in and go out, never the whole of it.
+#![tactic(auto)]
+
 mod tables;
 
 ghost use Rattle.std.specs.Prelude.{◌≡◌, ◌<◌};

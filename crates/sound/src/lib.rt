@@ -1,4 +1,6 @@
 // The test of a record, phrase by phrase.
+#![tactic(auto)]
+
 ghost use Rattle.std.specs.Prelude.{◌≡◌, List, ℕ, length};
 ghost use Rattle.checks.specs.Checks.{sizes_in, others_unused, tasks_in, objects_in, queues_in, lists_in, tables_in, places_in, waits_in, levels_in};
 ghost use Rattle.record.specs.Whole.{whole};

@@ -1,4 +1,6 @@
 // Mutexes and semaphores, and the waits on them: one function for each phrase of "sound state", over all places at once.
+#![tactic(auto)]
+
 ghost use Rattle.std.specs.Prelude.{◌≡◌, cond, eqb};
 ghost use Rattle.lists.specs.Test.{allb};
 ghost use Rattle.lists.specs.Table.{filled};

@@ -1,4 +1,6 @@
 // Does the phase, set-up or started, have what it owes?
+#![tactic(auto)]
+
 ghost use Rattle.std.specs.Prelude.{◌≡◌};
 ghost use Rattle.checks.specs.Checks.{started_in, at_rest, set_up_in};
 

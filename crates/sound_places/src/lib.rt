@@ -1,4 +1,6 @@
 // Does each task stand in one place, do the chains of waits end, and are levels as defined?
+#![tactic(auto)]
+
 ghost use Rattle.std.specs.Prelude.{◌≡◌, get_or};
 ghost use Rattle.lists.specs.Test.{◌and◌, allb};
 ghost use Rattle.chains.specs.Chain.{endsb};

@@ -1,4 +1,6 @@
 // The table of queues: one function for each phrase of "sound state" about it, over all places at once.
+#![tactic(auto)]
+
 ghost use Rattle.std.specs.Prelude.{◌≡◌, leb};
 ghost use Rattle.lists.specs.Test.{◌and◌, allb};
 ghost use Rattle.rules.specs.Sizes.{max_queues};

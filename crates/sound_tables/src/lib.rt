@@ -1,4 +1,6 @@
 // The columns of the table of tasks: one function for each phrase of "sound state", over all places at once. Unused places pass what a task must.
+#![tactic(auto)]
+
 ghost use Rattle.std.specs.Prelude.{◌≡◌};
 ghost use Rattle.lists.specs.Test.{allb};
 ghost use Rattle.rules.specs.Sizes.{task_places};

@@ -1,4 +1,6 @@
 // The waits at queues, for what isn't available: a waiting sender's queue is full, a waiting receiver's empty.
+#![tactic(auto)]
+
 ghost use Rattle.std.specs.Prelude.{◌≡◌, not, ltb, eqb, get_or};
 ghost use Rattle.lists.specs.Test.{◌and◌, ◌or◌, allb};
 ghost use Rattle.rules.specs.Sizes.{task_places, on_send, on_receive};

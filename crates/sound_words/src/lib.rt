@@ -1,4 +1,6 @@
 // The words that tasks hold, eight for each, lent beside the record: a lent slice may have any length.
+#![tactic(auto)]
+
 ghost use Rattle.std.specs.Prelude.{◌≡◌, ◌*◌, min};
 ghost use Rattle.lists.specs.Test.{allb};
 ghost use Rattle.rules.specs.Sizes.{task_places, held_words};

@@ -1,4 +1,6 @@
 // A line of a script to a step's request and the message beside it: a name and its numbers, parted by tabs.
+#![tactic(auto)]
+
 ghost use Rattle.std.specs.Prelude.{◌≡◌};
 ghost use Rattle.std.proofs.Math.Option.{none};
 ghost use Rattle.words.specs.Form.{words, made_by, step_on};

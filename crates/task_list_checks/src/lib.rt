@@ -1,4 +1,6 @@
 // What the test of a record asks of a list, and how often each task stands there.
+#![tactic(auto)]
+
 ghost use Rattle.std.specs.Prelude.{◌≡◌};
 ghost use Rattle.lists.specs.Order.{ascb, tiesb};
 ghost use Rattle.lists.specs.Test.{allb};

@@ -1,4 +1,6 @@
 // Lists of task ids: a table of sixteen places whose first `n` are used, the others holding NONE.
+#![tactic(auto)]
+
 ghost use Rattle.std.specs.Prelude.{◌≡◌, ◌≤◌, ◌<◌, length, take};
 ghost use Rattle.lists.specs.Order.{keep};
 ghost use Rattle.task_lists.specs.TaskList.{places, items, first_ids, key_of, pushed, place_of, opened, inserted, kept, task_list_of, tailed, inserted_flagged, every_id, best_of, waits_for};

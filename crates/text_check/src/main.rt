@@ -1,4 +1,6 @@
 // Runs the functions of `text`, `decimal` and `arrive` on edge inputs and prints what they answer, to be compared with the stored output.
+#![tactic(auto)]
+
 mod arrivals;
 mod cuts;
 mod numbers;

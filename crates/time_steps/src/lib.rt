@@ -1,4 +1,6 @@
 // Sleep and tick: the refusals in the order of the table, then what the step does.
+#![tactic(auto)]
+
 ghost use Rattle.std.specs.Prelude.{◌≡◌};
 ghost use Rattle.machine.specs.Machine.{tick_step, sleep_step};
 

@@ -1,4 +1,6 @@
 // Waits in the table of tasks: they begin and end, flags name tasks by them, and one waiter is the best.
+#![tactic(auto)]
+
 mod columns;
 
 ghost use Rattle.std.specs.Prelude.{◌≡◌};

@@ -1,4 +1,6 @@
 // Walks from waiter to owner: `next` holds, for each task, the id of the task it leads to; a number that no task can have leads nowhere.
+#![tactic(auto)]
+
 ghost use Rattle.std.specs.Prelude.{◌≡◌, ◌≤◌, min, length};
 ghost use Rattle.lists.specs.Count.{member};
 ghost use Rattle.lists.specs.Order.{before};

@@ -1,4 +1,6 @@
 // A step's name with its numbers to the step's request and the message beside it.
+#![tactic(auto)]
+
 ghost use Rattle.std.specs.Prelude.{◌≡◌, cond, [], ◌≤◌, ◌<◌, ltb, leb, length, get_or};
 ghost use Rattle.lists.specs.Test.{◌and◌};
 ghost use Rattle.words.specs.Form.{same_bytes, most_numbers};
