@@ -131,7 +131,7 @@ kept_task_list_of flags v l = rw (items_task_list_of l) refl
 pub length_counted : (c l : List ℕ) → length (counted c l) ≡ length c
 unfolding counted
 length_counted c [] = refl
-length_counted c (y ∷ l) = length_counted _ l ∙ length-set c y _
+length_counted c (y ∷ l) = length_counted (set c y ((key_of c y + 1) % 256)) l ∙ length-set c y _
 
 pub get_d_counted : (c l : List ℕ) (i : ℕ) → i < length c → get_or c i 0 < 256 → get_or (counted c l) i 0 ≡ (get_or c i 0 + occ i l) % 256
 unfolding counted occ

@@ -1,0 +1,42 @@
+-- `task_lists::insert_flagged` meets its contract. The loop: the table and its count, with the tasks of the order still to come tried, are the whole list.
+use borrow.Author.Rules.{rules}
+use mathlib.Core.Path.{◌≡◌, refl, sym, ◌∙◌}
+use mathlib.Core.Logic.{⊎_elim}
+use Prim.Native.Nat.{◌-◌, ◌<◌}
+use native.Mathlib.Omega.{arith}
+use lib.ListN.{length}
+use Rattle.task_lists.specs.TaskList.{places, items, first_ids}
+use Rattle.task_lists.specs.ItemLaws.{items_few}
+use Rattle.task_lists.proofs.Laws.{flagged_on, flagged_off, flagged_end}
+use Rattle.task_lists.proofs.insert_flagged.Goals as goal
+use Rattle.task_lists.proofs.insert_flagged.Goals.{then-key_in-eq1, else-key_in-eq1}
+
+pub loop-i-init : goal.loop-i-init
+loop-i-init c = (search rules, search rules, refl)
+
+pub bounds-order-i : goal.bounds-order-i
+bounds-order-i c =
+    let q = c.args.order in
+    let g : length q.ids ≡ places = search rules in
+    omega (arith, items_few q g)
+
+pub loop-i-preserved : goal.loop-i-preserved
+loop-i-preserved c =
+    let a = c.args in
+    let l = c.loop-i in
+    let h : l.i < length (items a.order) = omega arith in
+    let k = c.key_in.ensures in
+    elim c.if-key_in-eq1.branch [
+      | then-key_in-eq1 w ↦
+        let f = flagged_on a.keys a.flags a.order l.i (first_ids l.ids l.k) h (sym k ∙ w.if-key_in-eq1.true) in
+        (omega arith, rw w.ids-is w.insert_in-k.ensures.0, rw (w.ids-is, w.k-is, w.insert_in-k.ensures.1, w.key_in-then-key_in-eq1.ensures) (sym f ∙ l.invariant.2))
+      | else-key_in-eq1 w ↦
+        let f = flagged_off a.keys a.flags a.order l.i (first_ids l.ids l.k) h (λ e. w.if-key_in-eq1.false (k ∙ e)) in
+        (omega arith, rw w.ids-is l.invariant.1, rw (w.ids-is, w.k-is) (sym f ∙ l.invariant.2))
+    ]
+
+pub returns : goal.returns
+returns c =
+    let a = c.args in
+    let l = c.loop-i in
+    sym (flagged_end a.keys a.flags a.order l.i (first_ids l.ids l.k) (omega arith)) ∙ l.invariant.2
