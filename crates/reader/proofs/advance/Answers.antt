@@ -50,7 +50,8 @@ use Rattle.reader.proofs.advance.Goals as goal
 abbrev stayed : Stays (advance.ended).signature.params (advance.ended).kept
 stayed = (stay_none held.Kind yes, tt)
 
-module _ {M : Type 1} {𝓤 : Ura M} (𝓛 : Logic 𝓤) (mem : Memory → SProp 𝓤) (run : Routine → Fun 𝓤) where -- the contract that the proof cites abbrev Skip : Contract 𝓤 Skip = triple_of 𝓛 skip.signature (skip.spec 𝓛 mem run) 
+module _ {M : Type 1} {𝓤 : Ura M} (𝓛 : Logic 𝓤) (mem : Memory → SProp 𝓤) (run : Routine → Fun 𝓤) where  -- the contract that the proof cites abbrev Skip : Contract 𝓤 Skip = triple_of 𝓛 skip.signature (skip.spec 𝓛 mem run)
+
 module _ {M : Type 1} {𝓤 : Ura M} (𝓛 : Logic 𝓤) (mem : Memory → SProp 𝓤) (run : Routine → Fun 𝓤) (κ : Lft) (q : Share) (d : Reader) where
   open 𝓛 use {H}
 

@@ -48,7 +48,8 @@ use Rattle.reader.proofs.ended.Goals as goal
 abbrev stayed : Stays (ended.ended).signature.params (ended.ended).kept
 stayed = (stay_none held.Kind yes, tt)
 
-module _ {M : Type 1} {𝓤 : Ura M} (𝓛 : Logic 𝓤) (mem : Memory → SProp 𝓤) (run : Routine → Fun 𝓤) where -- the contract that the proof cites abbrev Past : Contract 𝓤 Past = triple_of 𝓛 past.signature (past.spec 𝓛 mem run) 
+module _ {M : Type 1} {𝓤 : Ura M} (𝓛 : Logic 𝓤) (mem : Memory → SProp 𝓤) (run : Routine → Fun 𝓤) where  -- the contract that the proof cites abbrev Past : Contract 𝓤 Past = triple_of 𝓛 past.signature (past.spec 𝓛 mem run)
+
 module _ {M : Type 1} {𝓤 : Ura M} (𝓛 : Logic 𝓤) (mem : Memory → SProp 𝓤) (run : Routine → Fun 𝓤) (κ : Lft) (q : Share) (d : Reader) where
   open 𝓛 use {H}
 

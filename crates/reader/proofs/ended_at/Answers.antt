@@ -50,7 +50,8 @@ use Rattle.reader.proofs.ended_at.Goals as goal
 abbrev stayed : Stays (ended_at.ended).signature.params (ended_at.ended).kept
 stayed = (stay_none_slice (0 ∷ []) tt (plain (λ _. u8)) yes, (stay_none (λ _. usize) yes, tt))
 
-module _ {M : Type 1} {𝓤 : Ura M} (𝓛 : Logic 𝓤) (mem : Memory → SProp 𝓤) (run : Routine → Fun 𝓤) where -- the contract that the proof cites abbrev Ended : Contract 𝓤 Ended = triple_of 𝓛 ended.signature (ended.spec 𝓛 mem run) 
+module _ {M : Type 1} {𝓤 : Ura M} (𝓛 : Logic 𝓤) (mem : Memory → SProp 𝓤) (run : Routine → Fun 𝓤) where  -- the contract that the proof cites abbrev Ended : Contract 𝓤 Ended = triple_of 𝓛 ended.signature (ended.spec 𝓛 mem run)
+
 module _ {M : Type 1} {𝓤 : Ura M} (𝓛 : Logic 𝓤) (mem : Memory → SProp 𝓤) (run : Routine → Fun 𝓤) (κ : Lft) (q : Share) (s : Bor (List ℕ)) (i : ℕ) (fits : i < 2 ^ 64) where
   -- the reader that is made
   open 𝓛 use {H}

@@ -57,7 +57,8 @@ use Rattle.reader.proofs.first_line.Goals as goal
 abbrev stayed : Stays (first-line.ended).signature.params (first-line.ended).kept
 stayed = (stay_none_slice (0 ∷ []) tt (plain (λ _. u8)) yes, tt)
 
-module _ {M : Type 1} {𝓤 : Ura M} (𝓛 : Logic 𝓤) (mem : Memory → SProp 𝓤) (run : Routine → Fun 𝓤) where -- the contracts that the proof cites abbrev Over : Contract 𝓤 Over = triple_of 𝓛 over.signature (over.spec 𝓛 mem run)  abbrev Line : Contract 𝓤 Line = triple_of 𝓛 line.signature (line.spec 𝓛 mem run) 
+module _ {M : Type 1} {𝓤 : Ura M} (𝓛 : Logic 𝓤) (mem : Memory → SProp 𝓤) (run : Routine → Fun 𝓤) where  -- the contracts that the proof cites abbrev Over : Contract 𝓤 Over = triple_of 𝓛 over.signature (over.spec 𝓛 mem run)  abbrev Line : Contract 𝓤 Line = triple_of 𝓛 line.signature (line.spec 𝓛 mem run)
+
 module _ {M : Type 1} {𝓤 : Ura M} (𝓛 : Logic 𝓤) (mem : Memory → SProp 𝓤) (run : Routine → Fun 𝓤) (κ : Lft) (q : Share) (s : Bor (List ℕ)) where
   -- the machine value of s
   open 𝓛 use {H}

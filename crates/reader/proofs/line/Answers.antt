@@ -49,7 +49,8 @@ use Rattle.reader.proofs.line.Goals as goal
 abbrev stayed : Stays (line.ended).signature.params (line.ended).kept
 stayed = (stay_none held.Kind yes, tt)
 
-module _ {M : Type 1} {𝓤 : Ura M} (𝓛 : Logic 𝓤) (mem : Memory → SProp 𝓤) (run : Routine → Fun 𝓤) where -- the contract that the proof cites abbrev Cut : Contract 𝓤 Cut = triple_of 𝓛 cut.signature (cut.spec 𝓛 mem run) 
+module _ {M : Type 1} {𝓤 : Ura M} (𝓛 : Logic 𝓤) (mem : Memory → SProp 𝓤) (run : Routine → Fun 𝓤) where  -- the contract that the proof cites abbrev Cut : Contract 𝓤 Cut = triple_of 𝓛 cut.signature (cut.spec 𝓛 mem run)
+
 module _ {M : Type 1} {𝓤 : Ura M} (𝓛 : Logic 𝓤) (mem : Memory → SProp 𝓤) (run : Routine → Fun 𝓤) (κ : Lft) (q : Share) (d : Reader) where
   open 𝓛 use {H}
 

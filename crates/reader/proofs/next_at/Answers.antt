@@ -53,7 +53,8 @@ use Rattle.reader.proofs.next_at.Goals as goal
 abbrev stayed : Stays (next_at_lem.ended).signature.params (next_at_lem.ended).kept
 stayed = (stay_none_slice (0 ∷ []) tt (plain (λ _. u8)) yes, (stay_none (λ _. usize) yes, tt))
 
-module _ {M : Type 1} {𝓤 : Ura M} (𝓛 : Logic 𝓤) (mem : Memory → SProp 𝓤) (run : Routine → Fun 𝓤) where -- the contract that the proof cites abbrev Advance : Contract 𝓤 Advance = triple_of 𝓛 advance.signature (advance.spec 𝓛 mem run) 
+module _ {M : Type 1} {𝓤 : Ura M} (𝓛 : Logic 𝓤) (mem : Memory → SProp 𝓤) (run : Routine → Fun 𝓤) where  -- the contract that the proof cites abbrev Advance : Contract 𝓤 Advance = triple_of 𝓛 advance.signature (advance.spec 𝓛 mem run)
+
 module _ {M : Type 1} {𝓤 : Ura M} (𝓛 : Logic 𝓤) (mem : Memory → SProp 𝓤) (run : Routine → Fun 𝓤) (κ : Lft) (q : Share) (s : Bor (List ℕ)) (i : ℕ) (fits : i < 2 ^ 64) where
   -- the reader that is made
   open 𝓛 use {H}

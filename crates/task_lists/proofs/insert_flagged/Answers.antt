@@ -28,11 +28,11 @@ loop-i-preserved c =
     let k = c.key_in.ensures in
     elim c.if-key_in-eq1.branch [
       | then-key_in-eq1 w ↦
-        let f = flagged_on a.keys a.flags a.order l.i (first_ids l.ids l.k) h (sym k ∙ w.if-key_in-eq1.true) in
-        (omega arith, rw w.ids-is w.insert_in-k.ensures.0, rw (w.ids-is, w.k-is, w.insert_in-k.ensures.1, w.key_in-then-key_in-eq1.ensures) (sym f ∙ l.invariant.2))
+          let f = flagged_on a.keys a.flags a.order l.i (first_ids l.ids l.k) h (sym k ∙ w.if-key_in-eq1.true) in
+          (omega arith, rw w.ids-is w.insert_in-k.ensures.0, rw (w.ids-is, w.k-is, w.insert_in-k.ensures.1, w.key_in-then-key_in-eq1.ensures) (sym f ∙ l.invariant.2))
       | else-key_in-eq1 w ↦
-        let f = flagged_off a.keys a.flags a.order l.i (first_ids l.ids l.k) h (λ e. w.if-key_in-eq1.false (k ∙ e)) in
-        (omega arith, rw w.ids-is l.invariant.1, rw (w.ids-is, w.k-is) (sym f ∙ l.invariant.2))
+          let f = flagged_off a.keys a.flags a.order l.i (first_ids l.ids l.k) h (λ e. w.if-key_in-eq1.false (k ∙ e)) in
+          (omega arith, rw w.ids-is l.invariant.1, rw (w.ids-is, w.k-is) (sym f ∙ l.invariant.2))
     ]
 
 pub returns : goal.returns

@@ -1,0 +1,38 @@
+-- `level_marks::marks` meets its contract. The loop: the word marks the levels of the tasks passed.
+use borrow.Author.Rules.{rules}
+use mathlib.Core.Path.{◌≡◌, sym, ◌∙◌}
+use Prim.Native.Nat.{◌-◌, ◌<◌}
+use native.Mathlib.Omega.{arith}
+use lib.ListN.{length, get_or, take}
+use lib.Seq.{take-length}
+use Rattle.task_lists.specs.TaskList.{items, places}
+use Rattle.task_lists.specs.ItemLaws.{items_few, items_take}
+use Rattle.level_marks.specs.Marks.{level_at}
+use Rattle.level_marks.specs.MarkLaws.{marks_nobody, marks_more}
+use Rattle.level_marks.proofs.marks.Goals as goal
+
+pub loop-i-init : goal.loop-i-init
+loop-i-init c = (search rules, sym (marks_nobody _))
+
+pub bounds-ready-i : goal.bounds-ready-i
+bounds-ready-i c =
+    let q = c.args.ready in
+    let g : length q.ids ≡ places = search rules in
+    omega (arith, items_few q g)
+
+pub loop-i-preserved : goal.loop-i-preserved
+loop-i-preserved c =
+    let a = c.args in
+    let l = c.loop-i in
+    let h : l.i < length (items a.ready) = omega arith in
+    let level = level_at a.levels in
+    let x = get_or a.ready.ids l.i 0 in (
+      search rules,
+      rw (l.invariant.1, c.mark-word.ensures, c.level_at.ensures, items_take a.ready l.i h) (marks_more level (take l.i (items a.ready)) x),
+    )
+
+pub returns : goal.returns
+returns c =
+    let q = c.args.ready in
+    let e : c.loop-i.i ≡ length (items q) = omega arith in
+    c.loop-i.invariant.1 ∙ rw (e, take-length (items q))

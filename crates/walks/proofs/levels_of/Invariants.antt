@@ -1,0 +1,12 @@
+-- `walks::levels_of` meets its contract. The loop keeps the levels after the first j tasks. Assumes nothing.
+use mathlib.Core.Path.{◌≡◌}
+use Prim.Native.Nat.{◌-◌, ◌≤◌}
+use Rattle.walks.specs.Walk.{raised}
+use Rattle.rules.specs.Sizes.{task_places}
+use Rattle.walks.proofs.levels_of.Given as goal
+
+abbrev pub invariant-loop-j : goal.invariant-loop-j
+invariant-loop-j l = (l.j ≤ l.n) × (l.j ≤ task_places) × (l.l ≡ raised l.own l.next l.n l.j)
+
+abbrev pub decreases-loop-j : goal.decreases-loop-j
+decreases-loop-j l = l.n - l.j
