@@ -1,6 +1,4 @@
 // A reader keeps a lent text together with its place in it, and hands out the text's lines as parts of it.
-// A function over a struct that holds a reference is proved by hand, step by step of its code. So those here are thin: each
-// takes the reader apart, or makes one, and calls a function with the slice and the number, which does the work.
 #![tactic(auto)]
 
 pub mod whole;
@@ -55,7 +53,7 @@ pub fn advance<'a>(r: Reader<'a>) -> Reader<'a>
     }
 }
 
-// From here on a caller hands in a slice and a number, and needs no proof by hand: a reader is made and asked.
+// From here on a caller hands in a slice and a number: a reader is made and asked.
 
 // Whether no line begins at `at`.
 pub fn ended_at(text: &[u8], at: usize) -> bool

@@ -28,4 +28,4 @@ returns c =
     let l = c.loop-left in
     let z : l.left ≡ 0 = omega arith in
     let text = c.args.text.now in
-    c.line_at_lem.ensures ∙ sym (nth_first text l.at) ∙ (rw z at l.invariant)
+    c.line_at.ensures ∙ sym (nth_first text l.at) ∙ (rw z at l.invariant)
