@@ -170,12 +170,12 @@ module _ (t : Tables) (F : Facts t) where
   pub next_table : (o : List ℕ) (clock : ℕ) (lv : List ℕ) (i : ℕ) → next_in (filled task_places (next_at (put_level (pack_tasks t clock) lv) (pack_mutexes t) (pack_queues o t.queues))) i ≡ next t i
   unfolding next owner_awaited
   next_table o = led_table (pack_mutexes t).owner (pack_queues o t.queues).owner (owner_awaited t) (λ j. ap task_at (owner_read t j) ∙ owner_back t F j)
-      (λ j. ap task_at (queue_owner_read t o j) ∙ queue_owner_back t F j) (record { no_sem = λ j. refl; no_message_lem = λ j. refl; no_time = refl })
+      (λ j. ap task_at (queue_owner_read t o j) ∙ queue_owner_back t F j) (record { no_sem = λ j. refl; no_message = λ j. refl; no_time = refl })
 
   pub lends_table : (o : List ℕ) (clock : ℕ) (lv : List ℕ) (i : ℕ) → next_in (filled task_places (lends_at (put_level (pack_tasks t clock) lv) (pack_mutexes t) (pack_queues o t.queues))) i ≡ lends t i
   unfolding lends heir_awaited
   lends_table o = led_table (filled max_mutexes (heir_at (pack_mutexes t))) (pack_queues o t.queues).owner (heir_awaited t) heir_code
-      (λ j. ap task_at (queue_owner_read t o j) ∙ queue_owner_back t F j) (record { no_sem = λ j. refl; no_message_lem = λ j. refl; no_time = refl })
+      (λ j. ap task_at (queue_owner_read t o j) ∙ queue_owner_back t F j) (record { no_sem = λ j. refl; no_message = λ j. refl; no_time = refl })
 
   -- the levels that the code makes are the levels
   levels_table : (o : List ℕ) (clock : ℕ) (lv : List ℕ) → new_levels (put_level (pack_tasks t clock) lv) (pack_mutexes t) (pack_queues o t.queues) ≡ level_column t

@@ -36,7 +36,7 @@ stored_level k ws b e i h = eqb-true _ _ (all_true k.tasks.n _ e i h)
 -- only waits for mutexes and for room in a queue lead to anyone
 pub record Leading (f : Awaited → Option ℕ) : Type 0 where
   pub no_sem : (j : ℕ) → f (sem_of j) ≡ none
-  pub no_message_lem : (j : ℕ) → f (message_in j) ≡ none
+  pub no_message : (j : ℕ) → f (message_in j) ≡ none
   pub no_time : f time ≡ none
 
 -- whom such a wait leads to, by the places of its task; this depends on no kind of wait being another
@@ -274,12 +274,12 @@ module _ (k : State) (ws b : List ℕ) (T : Typed k) (tidy : tidyb k ≡ true) w
   pub next_at_lem : (i : ℕ) → i < k.tasks.n → task_at (next_at k.tasks k.mutexes k.queues i) ≡ next (view_tables (whole k ws b)) i
   unfolding next owner_awaited
   next_at_lem = led_wait k.mutexes.owner k.queues.owner (owner_awaited (view_tables (whole k ws b))) (λ j. sym (view_owner j)) (λ j. sym (view_queue_owner j))
-      (record { no_sem = λ j. refl; no_message_lem = λ j. refl; no_time = refl })
+      (record { no_sem = λ j. refl; no_message = λ j. refl; no_time = refl })
 
   pub lends_at_lem : (i : ℕ) → i < k.tasks.n → task_at (lends_at k.tasks k.mutexes k.queues i) ≡ lends (view_tables (whole k ws b)) i
   unfolding lends heir_awaited
   lends_at_lem = led_wait (filled max_mutexes (heir_at k.mutexes)) k.queues.owner (heir_awaited (view_tables (whole k ws b))) view_heir (λ j. sym (view_queue_owner j))
-      (record { no_sem = λ j. refl; no_message_lem = λ j. refl; no_time = refl })
+      (record { no_sem = λ j. refl; no_message = λ j. refl; no_time = refl })
 
   -- behind the last task there is none
   leads_out : (l m : List ℕ) (i : ℕ) → k.tasks.n ≤ i → leads_at k.tasks l m i ≡ no_id

@@ -4,12 +4,8 @@ use Rattle.lists.specs.Table.{pad}
 use Rattle.rules.specs.State.{fresh}
 use Rattle.record.specs.Record.{pack_queues, pack}
 use Rattle.record.specs.DemandRecord.{fresh_record}
-use Rattle.record.proofs.first.no_queues.Statement.{statement}
-use Rattle.record.proofs.first.no_queues.Tie as tie
+use Rattle.record.proofs.first.no_queues.Goals as goal
 
-returns : tie.Need-returns
+pub returns : goal.returns
 unfolding fresh_record fresh pack pack_queues pad
 returns c = refl
-
-pub no_queues_spec : {M : Type 1} → statement M
-no_queues_spec = tie.close (tie.spec returns)
