@@ -123,7 +123,7 @@ module _ (s : Model) (I : Inv s) (os b : List ℕ) (S : Stands os b s.tables.que
   -- the course of an accepted step does what the definition says
   pub record Good (c : Course) (y : Step) (m : List ℕ) : Type 0 where
     pub oldest : oldest_for (pack_queues os x) y (effect s y).number ≡ c.after
-    pub held_words_lem : words_after c.move (pack_words t) m b ≡ pack_words (effect s y).state.tables
+    pub held_words : words_after c.move (pack_words t) m b ≡ pack_words (effect s y).state.tables
     pub block : block_after c.move (pack_words t) m b ≡ block_for h y (effect s y).number
 
   carried_parts : (c : Course) (y : Step) (m : List ℕ) → Good c y m
@@ -156,7 +156,7 @@ module _ (s : Model) (I : Inv s) (os b : List ℕ) (S : Stands os b s.tables.que
   carried_still y m same words e = ap (carried h m) e ∙ go (first_row (refusals s y)) refl
     where
       go : (o : Option Row) → first_row (refusals s y) ≡ o → carried h m (plan_for os Nothing (decide s y o)) ≡ after_for h y (decide s y o)
-      go none f = carried_parts (going os s I os Nothing) y m (record { oldest = (same (effect s y).number).0; held_words_lem = sym (words f); block = sym (same (effect s y).number).1 })
+      go none f = carried_parts (going os s I os Nothing) y m (record { oldest = (same (effect s y).number).0; held_words = sym (words f); block = sym (same (effect s y).number).1 })
       go (some r) f = refused_parts y r m (ne_eqb r.number 0 (λ z. omega (arith, refused_above r.number (refused_number s y r f))))
 
   pub carried_quiet : (y : Step) (m : List ℕ) → is_quiet y ≡ true → ((n : ℕ) → (oldest_for (pack_queues os x) y n ≡ os) × (block_for h y n ≡ b)) → {p : Plan}
@@ -166,7 +166,7 @@ module _ (s : Model) (I : Inv s) (os b : List ℕ) (S : Stands os b s.tables.que
   -- a new queue
   pub queue_good : (w d : ℕ) (p : Option ℕ) (m : List ℕ) → Good (going os s I (os ++ (0 ∷ [])) Nothing) (queue w d p) m
   unfolding oldest_for block_for effect pack_words
-  queue_good w d p m = record { oldest = ap (λ l. l ++ (0 ∷ [])) (oldest_back s I os b S); held_words_lem = refl; block = refl }
+  queue_good w d p m = record { oldest = ap (λ l. l ++ (0 ∷ [])) (oldest_back s I os b S); held_words = refl; block = refl }
 
   -- a message that a task holds
   hold_fits : (i : ℕ) (m : List ℕ) → i < task_count t → length m ≤ held_words → words_after (HoldWords i) (pack_words t) m b ≡ pack_words (hands t i m)
@@ -181,7 +181,7 @@ module _ (s : Model) (I : Inv s) (os b : List ℕ) (S : Stands os b s.tables.que
         → words_after c.move (pack_words t) m b ≡ pack_words E.state.tables → block_after c.move (pack_words t) m b ≡ block_for h y E.number → Good c y m
     good_by c y m E e o w k = record {
       oldest = ap (λ z. oldest_for (pack_queues os x) y z.number) e ∙ o;
-      held_words_lem = w ∙ ap (λ z. pack_words z.state.tables) (sym e);
+      held_words = w ∙ ap (λ z. pack_words z.state.tables) (sym e);
       block = k ∙ ap (λ z. block_for h y z.number) (sym e);
     }
 
