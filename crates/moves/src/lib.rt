@@ -10,7 +10,7 @@ ghost use Rattle.moves.specs.Moves.{hold_words, queue_block, take_words, swap_wo
 use crate::fits::EIGHT;
 
 // What a step moves.
-#[derive(Drop)]
+#[derive(Clone, Copy)]
 pub enum Move {
     Nothing,
     // The message becomes the words held by a task.

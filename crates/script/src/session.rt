@@ -14,7 +14,7 @@ use words::Reading;
 
 // What a script has come to: the record, where it stands, and how many bytes of a line the carry holds. The words that tasks hold, WORDS of them, and the
 // block for queues are lent with each call, the same as the last call left them; at first the words are 0.
-#[derive(Drop)]
+#[derive(Clone, Copy)]
 pub struct Session {
     pub state: State,
     pub stage: u8,
@@ -23,7 +23,7 @@ pub struct Session {
 
 // What a piece of the script came to: the session then, the place behind what was taken, and how many bytes of log were written. The number is 0
 // where all was taken, and 8 where the line that begins at `next`, or whose rest does, has no room for its log line: nothing of it is done.
-#[derive(Drop)]
+#[derive(Clone, Copy)]
 pub struct Moved {
     pub session: Session,
     pub next: usize,

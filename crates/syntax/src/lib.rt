@@ -13,7 +13,7 @@ use text::{cut, fields};
 use words::{MOST_NUMBERS, Message, Reading};
 
 // What was read of a line.
-#[derive(Drop)]
+#[derive(Clone, Copy)]
 pub struct Line {
     pub reading: Reading,
     pub message: Message,

@@ -20,14 +20,14 @@ const AHEAD: usize = 2;
 pub const MOST_NUMBERS: usize = AHEAD + EIGHT;
 
 // What was read: a step's request, or nothing of the form.
-#[derive(Drop)]
+#[derive(Clone, Copy)]
 pub enum Reading {
     Made(Request),
     Malformed,
 }
 
 // The words of a message, and how many there are; the rest 0. It stands beside its request, as an enum holds no array.
-#[derive(Drop)]
+#[derive(Clone, Copy)]
 pub struct Message {
     pub words: [u32; EIGHT],
     pub n: usize,
