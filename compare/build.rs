@@ -1,4 +1,4 @@
-//! Links the proved library; CUNGKALISA_LIBRARY names another place than where `rt staticlib firmware` writes it.
+//! Links the proved library; CUNGKALISA_LIBRARY names another place than where `tools/library` writes it.
 
 use std::env;
 use std::path::PathBuf;
