@@ -1,0 +1,13 @@
+-- `sound_objects::mutexes` meets its contract. The loop carries the test of the places passed. Assumes nothing.
+use mathlib.Core.Path.{◌≡◌}
+use Prim.Native.Nat.{◌-◌, ◌≤◌}
+use Rattle.lists.specs.Test.{allb}
+use Rattle.rules.specs.Sizes.{max_mutexes}
+use Rattle.checks.specs.Checks.{mutex_fits_at}
+use Rattle.sound_objects.proofs.mutexes.Given as goal
+
+abbrev pub invariant-loop-i : goal.invariant-loop-i
+invariant-loop-i l = (l.i ≤ max_mutexes) × (l.fits ≡ allb l.i (mutex_fits_at l.m.kind l.m.owner l.m.n l.tasks))
+
+abbrev pub decreases-loop-i : goal.decreases-loop-i
+decreases-loop-i l = max_mutexes - l.i

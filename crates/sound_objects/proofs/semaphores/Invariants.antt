@@ -1,0 +1,13 @@
+-- `sound_objects::semaphores` meets its contract. The loop carries the test of the places passed. Assumes nothing.
+use mathlib.Core.Path.{◌≡◌}
+use Prim.Native.Nat.{◌-◌, ◌≤◌}
+use Rattle.lists.specs.Test.{allb}
+use Rattle.rules.specs.Sizes.{max_semaphores}
+use Rattle.checks.specs.Checks.{sem_fits_at}
+use Rattle.sound_objects.proofs.semaphores.Given as goal
+
+abbrev pub invariant-loop-i : goal.invariant-loop-i
+invariant-loop-i l = (l.i ≤ max_semaphores) × (l.fits ≡ allb l.i (sem_fits_at l.count l.maximum l.n))
+
+abbrev pub decreases-loop-i : goal.decreases-loop-i
+decreases-loop-i l = max_semaphores - l.i
