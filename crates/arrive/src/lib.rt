@@ -13,7 +13,7 @@ use text::{cut, place};
 pub const LONGEST: usize = 160;
 
 // What was found in the bytes that arrived.
-#[derive(Drop)]
+#[derive(Clone, Copy)]
 pub enum Found {
     // A whole line: this part of the bytes.
     Part { start: usize, end: usize },
