@@ -6,12 +6,14 @@ mod cuts;
 mod numbers;
 mod show;
 
-fn main() {
-    numbers::parsing();
-    numbers::rooms();
-    cuts::fields();
-    cuts::lines();
-    arrivals::splits();
-    arrivals::longest();
-    arrivals::places();
+use std::io;
+
+fn main(rt: HostRuntime) -> io::Result<()> {
+    numbers::parsing(&rt)?;
+    numbers::rooms(&rt)?;
+    cuts::fields(&rt)?;
+    cuts::lines(&rt)?;
+    arrivals::splits(&rt)?;
+    arrivals::longest(&rt)?;
+    arrivals::places(&rt)
 }

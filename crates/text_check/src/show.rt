@@ -1,43 +1,40 @@
 // Writes to standard output.
-use libc::STDOUT_FILENO;
+use std::io;
 
-pub fn text(s: &[u8]) {
-    io::write_all(STDOUT_FILENO, s);
+pub fn text(rt: &impl Print, s: &[u8]) -> io::Result<()> {
+    rt.write_all(s)
 }
 
-pub fn number(n: u64) {
-    io::print_decimal(STDOUT_FILENO, n);
+pub fn number(rt: &impl Print, n: u64) -> io::Result<()> {
+    rt.print(n)
 }
 
-pub fn size(n: usize) {
-    text(b" ");
-    number(n as u64);
+pub fn size(rt: &impl Print, n: usize) -> io::Result<()> {
+    text(rt, b" ")?;
+    number(rt, n as u64)
 }
 
 // One byte: itself where it's printable, else its number.
-fn byte(c: u8) {
+fn byte(rt: &impl Print, c: u8) -> io::Result<()> {
     if 32 <= c {
         if c <= 126 {
-            text(&[c]);
-            return;
+            return text(rt, &[c]);
         }
     }
-    text(b"<");
-    number(c as u64);
-    text(b">");
+    text(rt, b"<")?;
+    number(rt, c as u64)?;
+    text(rt, b">")
 }
 
 // The bytes between brackets.
-pub fn quoted(s: &[u8]) {
-    text(b" [");
-    let mut i = 0;
-    while i < s.len() {
-        byte(s[i]);
-        i += 1;
+pub fn quoted(rt: &impl Print, s: &[u8]) -> io::Result<()> {
+    text(rt, b" [")?;
+    for c in s {
+        byte(rt, *c)?;
     }
-    text(b"]");
+    text(rt, b"]")
 }
 
-pub fn end() {
-    text(b"\n");
+pub fn end(rt: &impl Print) -> io::Result<()> {
+    text(rt, b"\n")
 }
