@@ -1,0 +1,10 @@
+-- `queue_places::width_at` meets its contract.
+use borrow.Author.Rules.{rules}
+use mathlib.Core.Path.{◌≡◌, sym}
+use native.Mathlib.Omega.{arith}
+use lib.ListN.{get_or-eq_default, length}
+use Rattle.rules.specs.Sizes.{max_queues}
+use Rattle.queue_places.proofs.width_at.Goals as goal
+
+pub returns-then-i-ge-QUEUES : goal.returns-then-i-ge-QUEUES
+returns-then-i-ge-QUEUES c = let a = c.args in let g : length a.x.width ≡ max_queues = search rules in sym (get_or-eq_default a.x.width 0 (omega arith))

@@ -1,0 +1,13 @@
+-- `sound_places::same` meets its contract. The loop carries the test of the places passed. Assumes nothing.
+use mathlib.Core.Path.{◌≡◌}
+use Prim.Native.Nat.{◌-◌, ◌≤◌}
+use Rattle.lists.specs.Test.{allb}
+use Rattle.rules.specs.Sizes.{task_places}
+use Rattle.checks.specs.Checks.{same_at}
+use Rattle.sound_places.proofs.same.Given as goal
+
+abbrev pub invariant-loop-i : goal.invariant-loop-i
+invariant-loop-i l = (l.i ≤ task_places) × (l.fits ≡ allb l.i (same_at l.level l.lent))
+
+abbrev pub decreases-loop-i : goal.decreases-loop-i
+decreases-loop-i l = task_places - l.i
