@@ -9,7 +9,7 @@ pub const ROOM: usize = 72;
 // What a block holds before the first message, so that it shows which words were written.
 pub const BLANK: u32 = 7;
 
-#[derive(Drop)]
+#[derive(Clone, Copy)]
 pub struct Kept {
     pub state: State,
     pub words: [u32; WORDS],

@@ -11,10 +11,12 @@ mod records;
 mod run;
 mod show;
 
-fn main() {
-    edges::all();
-    queue_refusals::all();
-    messages::all();
-    damaged::all();
-    damaged_queues::all();
+use std::io;
+
+fn main(rt: HostRuntime) -> io::Result<()> {
+    edges::all(&rt)?;
+    queue_refusals::all(&rt)?;
+    messages::all(&rt)?;
+    damaged::all(&rt)?;
+    damaged_queues::all(&rt)
 }

@@ -1,66 +1,65 @@
 // Writes to standard output.
 use crate::kept::{Kept, ROOM};
-use libc::STDOUT_FILENO;
 use record::Answer;
+use std::io;
 
-pub fn text(s: &[u8]) {
-    io::write_all(STDOUT_FILENO, s);
+pub fn text(rt: &impl Print, s: &[u8]) -> io::Result<()> {
+    rt.write_all(s)
 }
 
-pub fn number(n: u64) {
-    io::print_decimal(STDOUT_FILENO, n);
+pub fn number(rt: &impl Print, n: u64) -> io::Result<()> {
+    rt.print(n)
 }
 
-pub fn byte(n: u8) {
-    number(n as u64);
+pub fn byte(rt: &impl Print, n: u8) -> io::Result<()> {
+    number(rt, n as u64)
 }
 
-fn fields(number_: u8, value: u32, run: u8) {
-    byte(number_);
-    text(b" ");
-    number(value as u64);
-    text(b" ");
+fn fields(rt: &impl Print, number_: u8, value: u32, run: u8) -> io::Result<()> {
+    byte(rt, number_)?;
+    text(rt, b" ")?;
+    number(rt, value as u64)?;
+    text(rt, b" ")?;
     if run == record::NONE {
-        text(b"-");
-        return;
+        return text(rt, b"-");
     }
-    byte(run);
+    byte(rt, run)
 }
 
 // Number, value and task to run, as in a log line.
-pub fn answer(a: Answer) {
+pub fn answer(rt: &impl Print, a: Answer) -> io::Result<()> {
     match a {
-        Answer::Accepted { number, value, run } => fields(number, value, run),
-        Answer::Refused { number, value, run } => fields(number, value, run),
+        Answer::Accepted { number, value, run } => fields(rt, number, value, run),
+        Answer::Refused { number, value, run } => fields(rt, number, value, run),
     }
 }
 
 // Is all as it was before the step?
-pub fn stayed(same: bool) {
+pub fn stayed(rt: &impl Print, same: bool) -> io::Result<()> {
     if same {
-        text(b" unchanged\n");
-        return;
+        return text(rt, b" unchanged\n");
     }
-    text(b" changed\n");
+    text(rt, b" changed\n")
 }
 
-fn word(n: u32) {
-    text(b" ");
-    number(n as u64);
+fn word(rt: &impl Print, n: u32) -> io::Result<()> {
+    text(rt, b" ")?;
+    number(rt, n as u64)
 }
 
-fn words(block: [u32; ROOM], n: usize) {
+fn words(rt: &impl Print, block: [u32; ROOM], n: usize) -> io::Result<()> {
     for i in 0..ROOM {
         if i < n {
-            word(block[i]);
+            word(rt, block[i])?;
         }
     }
+    Ok(())
 }
 
 // The words of the block that steps are lent.
-pub fn block(k: Kept) {
-    text(b"block");
+pub fn block(rt: &impl Print, k: Kept) -> io::Result<()> {
+    text(rt, b"block")?;
     let b = k.block;
-    words(b, k.space);
-    text(b"\n");
+    words(rt, b, k.space)?;
+    text(rt, b"\n")
 }
