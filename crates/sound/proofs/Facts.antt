@@ -1,10 +1,11 @@
 -- What owning a record tells: arrays have their lengths, and due times are 32-bit numbers.
 use mathlib.Core.Path.{◌≡◌}
-use mathlib.Core.List.{List, [], ◌∷◌, map}
+use mathlib.Core.List.{List, [], ◌∷◌}
 use Prim.Native.Nat.{ℕ, zero, suc, ◌<◌}
 use native.Mathlib.Omega.{arith}
 use native.Mathlib.Decide.{dec_lt}
 use lib.ListN.{length, get_or, get_or-eq_default}
+use denote.Builtin.{u32}
 use mir.Val.{Val}
 use base.Fml.{Fml}
 use denote.Shadow.{shadow}
@@ -16,23 +17,23 @@ use Rattle.task_lists.specs.TaskList.{places}
 use Rattle.record.specs.declared.State.{State}
 use Rattle.record.specs.declared.Mutexes.{Mutexes}
 use Rattle.record.specs.GoodRecord.{Typed}
-use borrow.Author.Rules.{rules, length_unmapped}
+use borrow.Author.Rules.{rules}
 use Rattle.record.specs.contracts.State as st
 use Rattle.record.specs.contracts.Mutexes as mu
 
 -- each element of an array that is owned is a value of its type
-each_at : (d e : Type 0) (g : e → d) (f : d → List Val → Fml) (xs : List e) (us : List Val) (i : ℕ) (z : e) → i < length xs
-    → shadow (each d f (map g xs) us) → (u : Val) × shadow (f (g (get_or xs i z)) (u ∷ []))
-each_at d e g f [] us i z h p = absurd (omega arith)
-each_at d e g f (x ∷ xs) [] i z h p = absurd p
-each_at d e g f (x ∷ xs) (u ∷ us) zero z h p = (u, p.0)
-each_at d e g f (x ∷ xs) (u ∷ us) (suc i) z h p = each_at d e g f xs us i z (omega arith) p.1
+each_at : (d : Type 0) (f : d → List Val → Fml) (xs : List d) (us : List Val) (i : ℕ) (z : d) → i < length xs
+    → shadow (each d f xs us) → (u : Val) × shadow (f (get_or xs i z) (u ∷ []))
+each_at d f [] us i z h p = absurd (omega arith)
+each_at d f (x ∷ xs) [] i z h p = absurd p
+each_at d f (x ∷ xs) (u ∷ us) zero z h p = (u, p.0)
+each_at d f (x ∷ xs) (u ∷ us) (suc i) z h p = each_at d f xs us i z (omega arith) p.1
 
 pub due_word : (s : State) (vs : List Val) → Is (row st.the_type) s vs → (i : ℕ) → get_or s.tasks.due i 0 < word_size
 due_word s vs g i =
     let fd = g.1.1.0.1.1.0 in
     elim (dec_lt i (length s.tasks.due)) [
-      | yes h ↦ (each_at _ _ (λ (v : ℕ). v) _ s.tasks.due fd.0 i 0 h fd.1.1).1.1
+      | yes h ↦ (each_at u32.Denot u32.own_val s.tasks.due fd.0 i 0 h fd.1.1).1.1
       | no h ↦ rw (get_or-eq_default s.tasks.due 0 {n = i} (omega arith)) (omega arith)
     ]
 
@@ -50,24 +51,24 @@ typed s vs g =
     let r = g.1.1.1.1.1.1.1.0 in
     let w = g.1.1.1.1.1.1.1.1.0 in
     record {
-      due_length = length_unmapped ℕ s.tasks.due task_places t.1.1.0.1.0.1;
-      priority_length = length_unmapped ℕ s.tasks.priority task_places t.1.1.1.0.1.0.1;
-      level_length = length_unmapped ℕ s.tasks.level task_places t.1.1.1.1.0.1.0.1;
-      outcome_length = length_unmapped ℕ s.tasks.outcome task_places t.1.1.1.1.1.0.1.0.1;
-      wait_length = length_unmapped ℕ s.tasks.wait task_places t.1.1.1.1.1.1.0.1.0.1;
-      object_length = length_unmapped ℕ s.tasks.object task_places t.1.1.1.1.1.1.1.0.1.0.1;
-      timed_length = length_unmapped ℕ s.tasks.timed task_places t.1.1.1.1.1.1.1.1.0.1.0.1;
-      kind_length = length_unmapped ℕ s.mutexes.kind max_mutexes m.1.1.0.1.0.1;
-      owner_length = length_unmapped ℕ s.mutexes.owner max_mutexes m.1.1.1.0.1.0.1;
-      count_length = length_unmapped ℕ s.semaphores.count max_semaphores c.1.1.0.1.0.1;
-      maximum_length = length_unmapped ℕ s.semaphores.maximum max_semaphores c.1.1.1.0.1.0.1;
-      width_length = length_unmapped ℕ s.queues.width max_queues q.1.1.0.1.0.1;
-      depth_length = length_unmapped ℕ s.queues.depth max_queues q.1.1.1.0.1.0.1;
-      queue_owner_length = length_unmapped ℕ s.queues.owner max_queues q.1.1.1.1.0.1.0.1;
-      oldest_length = length_unmapped ℕ s.queues.oldest max_queues q.1.1.1.1.1.0.1.0.1;
-      used_length = length_unmapped ℕ s.queues.used max_queues q.1.1.1.1.1.1.0.1.0.1;
-      ready_length = length_unmapped ℕ s.ready.ids places r.1.1.0.1.0.1;
-      waiting_length = length_unmapped ℕ s.waiting.ids places w.1.1.0.1.0.1;
+      due_length = t.1.1.0.1.0.1;
+      priority_length = t.1.1.1.0.1.0.1;
+      level_length = t.1.1.1.1.0.1.0.1;
+      outcome_length = t.1.1.1.1.1.0.1.0.1;
+      wait_length = t.1.1.1.1.1.1.0.1.0.1;
+      object_length = t.1.1.1.1.1.1.1.0.1.0.1;
+      timed_length = t.1.1.1.1.1.1.1.1.0.1.0.1;
+      kind_length = m.1.1.0.1.0.1;
+      owner_length = m.1.1.1.0.1.0.1;
+      count_length = c.1.1.0.1.0.1;
+      maximum_length = c.1.1.1.0.1.0.1;
+      width_length = q.1.1.0.1.0.1;
+      depth_length = q.1.1.1.0.1.0.1;
+      queue_owner_length = q.1.1.1.1.0.1.0.1;
+      oldest_length = q.1.1.1.1.1.0.1.0.1;
+      used_length = q.1.1.1.1.1.1.0.1.0.1;
+      ready_length = r.1.1.0.1.0.1;
+      waiting_length = w.1.1.0.1.0.1;
       due_word = due_word s vs g;
       clock_word = search rules;
       hold_byte = g.1.1.1.1.1.1.1.1.1.1.0.1;

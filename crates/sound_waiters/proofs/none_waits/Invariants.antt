@@ -1,0 +1,13 @@
+-- `sound_waiters::none_waits` meets its contract. The loop carries the test of the places passed. Assumes nothing.
+use mathlib.Core.Path.{◌≡◌}
+use Prim.Native.Nat.{◌-◌, ◌≤◌}
+use Rattle.lists.specs.Test.{allb}
+use Rattle.rules.specs.Sizes.{task_places}
+use Rattle.sound_waiters.proofs.Laws.{elsewhere_at}
+use Rattle.sound_waiters.proofs.none_waits.Given as goal
+
+abbrev pub invariant-loop-i : goal.invariant-loop-i
+invariant-loop-i l = (l.i ≤ task_places) × (l.none ≡ allb l.i (elsewhere_at l.wait))
+
+abbrev pub decreases-loop-i : goal.decreases-loop-i
+decreases-loop-i l = task_places - l.i
