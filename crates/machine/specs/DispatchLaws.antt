@@ -11,7 +11,6 @@ use Rattle.lists.specs.Order.{insert_head, Asc}
 use Rattle.lists.specs.Table.{pad}
 use Rattle.lists.specs.TestLaws.{which, true_and, false_and}
 use Rattle.lists.specs.CountLaws.{eqn_at, in_below, below_le, pigeonhole}
-use Rattle.chains.specs.Chain.{on}
 use Rattle.rules.specs.Sizes.{task_places}
 use Rattle.rules.specs.Tables.{task_count}
 use Rattle.rules.specs.Settle.{meet, dispatch}

@@ -15,14 +15,12 @@ use Rattle.lists.specs.TestLaws.{which, by_test}
 use Rattle.lists.specs.CountLaws.{in_below, below_le, pigeonhole}
 use Rattle.lists.specs.TableLaws.{length_edit, get_d_edit, pad_set, get_d_pad}
 use Rattle.rules.specs.Sizes.{task_places, forever, pending, on_time}
-use Rattle.rules.specs.Step.{level, outcome}
-use Rattle.rules.specs.Effect.{begin_wait, end_waits, ended, due}
+use Rattle.rules.specs.Effect.{begin_wait, end_waits, ended}
 use Rattle.rules.specs.Sound.{wait_count}
 use Rattle.rules.specs.Invariant.{Facts, Inv}
 use Rattle.rules.specs.FactsLaws.{wait_ended}
 use Rattle.rules.specs.WaiterLaws.{wait_in_lem}
 use Rattle.rules.specs.StepLaws.{caller_in}
-use Rattle.rules.specs.History.{at}
 use Rattle.task_lists.specs.TaskList.{no_id, task_list_of, key_of, pushed, kept, id_of}
 use Rattle.task_lists.specs.TaskListLaws.{push_task_list_of, kept_task_list_of}
 use Rattle.record.specs.Record.{left_code, kind_code, object_code, timed_code, due_code, pack_tasks, pack_mutexes, pack_semaphores, pack}

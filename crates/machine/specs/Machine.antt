@@ -8,7 +8,6 @@ use Rattle.rules.specs.Sizes.{max_tasks, task_places, max_mutexes, max_semaphore
 use Rattle.rules.specs.Sound.{is_width, is_depth}
 use Rattle.rings.specs.Ring.{slot_of}
 use Rattle.rings.specs.Starts.{start_in}
-use Rattle.rules.specs.Step.{level, outcome}
 use Rattle.rules.specs.Effect.{due}
 use Rattle.task_lists.specs.TaskList.{no_id, items, task_list_of, key_of, pushed, inserted, kept, tailed, inserted_flagged, every_id, counted, best_of}
 use Rattle.level_marks.specs.Marks.{marks_in, first_marked}

@@ -11,9 +11,8 @@ use Rattle.lists.specs.Table.{edit, pad, filled}
 use Rattle.lists.specs.TestLaws.{which, by_test}
 use Rattle.lists.specs.OrderLaws.{keep_all, keep_none}
 use Rattle.lists.specs.TableLaws.{length_filled}
-use Rattle.chains.specs.Chain.{on}
 use Rattle.rules.specs.Sizes.{task_places, word_size, granted, timed_out}
-use Rattle.rules.specs.Step.{tick, level, outcome}
+use Rattle.rules.specs.Step.{tick}
 use Rattle.rules.specs.Effect.{end_waits, ended, is_due, due, outcome_due, age, age_all, tick_of, effect}
 use Rattle.rules.specs.Settle.{settle, dispatch}
 use Rattle.rules.specs.Refusal.{refusals}

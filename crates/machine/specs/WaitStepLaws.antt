@@ -16,7 +16,6 @@ use Rattle.lists.specs.TestLaws.{which, clash, by_test, same_test, and_l, and_r,
 use Rattle.lists.specs.CountLaws.{occ_append}
 use Rattle.lists.specs.OrderLaws.{keep_one}
 use Rattle.lists.specs.TableLaws.{get_d_pad}
-use Rattle.chains.specs.Chain.{on}
 use Rattle.rules.specs.Sizes.{task_places, max_semaphores, max_ticks, forever, granted, flushed, on_semaphore, on_time}
 use Rattle.rules.specs.Levels.{owner_awaited, heir_awaited, lends, awaits, best_waiter}
 use Rattle.rules.specs.Step.{pend, post, flush, sleep}

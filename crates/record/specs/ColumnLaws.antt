@@ -6,7 +6,7 @@ use Rattle.std.proofs.Math.ListN.{get_or-map}
 use Rattle.lists.specs.Table.{pad}
 use Rattle.lists.specs.TableLaws.{snoc_default, length_snoc, length_pad, get_d_pad}
 use Rattle.rules.specs.Sizes.{task_places}
-use Rattle.rules.specs.Tables.{Tables, Wait, task_count, wait_of, owner_of}  -- keep
+use Rattle.rules.specs.Tables.{Tables, Wait, wait_of}  -- keep
 
 -- the two answers of a test
 module _ {A : Type 0} (b : Bool) (x y : A) where

@@ -14,9 +14,7 @@ use Rattle.lists.specs.TableLaws.{length_filled, filled_ext, map_filled, pad_fil
 use Rattle.rules.specs.Sizes.{task_places, max_mutexes, max_semaphores, max_queues, word_size}
 use Rattle.rules.specs.Tables.{awaited_kind, awaited_object, Wait, Tables, task_count}
 use Rattle.rules.specs.Levels.{level_in}
-use Rattle.rules.specs.Step.{hold, level, outcome}
 use Rattle.rules.specs.Effect.{due}
-use Rattle.rules.specs.History.{at}
 use Rattle.task_lists.specs.TaskList.{places, no_id, items, task_list_of, id_of}
 use Rattle.task_lists.specs.TaskListLaws.{list_of_items}
 use Rattle.walks.specs.Walk.{task_at}

@@ -4,11 +4,9 @@ use Rattle.std.specs.Prelude.{ℕ, ◌+◌, ◌-◌, ◌*◌, ◌%◌, cond, not
 use Rattle.std.proofs.Math.Option.{Option, none, some}
 use Rattle.lists.specs.Test.{someb}
 use Rattle.lists.specs.Table.{pad, filled}
-use Rattle.chains.specs.Chain.{on}
-use Rattle.rules.specs.Sizes.{task_places, max_mutexes, max_semaphores, max_queues, held_words, kinds, word_size, on_mutex, on_semaphore, on_time, on_send, on_receive}
+use Rattle.rules.specs.Sizes.{task_places, max_mutexes, max_semaphores, max_queues, held_words, word_size, on_mutex, on_semaphore, on_time, on_send, on_receive}
 use Rattle.rules.specs.Tables.{task_count, mutex_count, sem_count}
 use Rattle.rules.specs.Levels.{level_in}
-use Rattle.rules.specs.Step.{hold, level, outcome}
 use Rattle.rings.specs.Ring.{Ring, messages}
 use Rattle.rings.specs.Starts.{start_of}
 use Rattle.rings.specs.Held.{held_by}

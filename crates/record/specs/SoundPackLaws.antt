@@ -16,10 +16,8 @@ use Rattle.lists.specs.Table.{pad, filled}
 use Rattle.lists.specs.TestLaws.{which, by_test, and_l, and_r, true_and, or_l, or_r, true_all, none_some, some_same}
 use Rattle.lists.specs.CountLaws.{occ_opt, in_below, below_le, pigeonhole}
 use Rattle.lists.specs.TableLaws.{length_filled, get_d_filled, filled_is, take_pad, length_pad, get_d_pad, read_any}
-use Rattle.chains.specs.Chain.{on}
-use Rattle.rules.specs.Sizes.{task_places, max_mutexes, max_semaphores, max_queues, kinds, word_size, on_receive}
+use Rattle.rules.specs.Sizes.{task_places, max_mutexes, max_semaphores, max_queues, word_size, on_receive}
 use Rattle.rules.specs.Levels.{level_in}
-use Rattle.rules.specs.Step.{hold}
 use Rattle.rules.specs.Sound.{soundb}
 use Rattle.rules.specs.Invariant.{Left, Timed, Facts, Inv}
 use Rattle.rules.specs.LevelLaws.{wait_out}

@@ -1,6 +1,6 @@
 -- `decimal::parse`: the number so far, with the digits that are left, is the number of the whole.
 use mathlib.Core.Path.{◌≡◌, sym, ◌∙◌}
-use Prim.Native.Nat.{◌<◌, ◌-◌}
+use Prim.Native.Nat.{◌<◌}
 use native.Mathlib.Omega.{arith}
 use lib.ListN.{length, get_or}
 use Rattle.decimal.specs.Parse.{with_digit}

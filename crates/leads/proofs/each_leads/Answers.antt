@@ -1,7 +1,6 @@
 -- `leads::each_leads` meets its contract. The loop: the places passed hold whom their tasks lead to.
 use borrow.Author.Rules.{rules}
 use mathlib.Core.Path.{◌∙◌}
-use Prim.Native.Nat.{◌-◌}
 use native.Mathlib.Omega.{arith}
 use Rattle.lists.specs.FillLaws.{fill_done, fill_more, fill_none}
 use Rattle.rules.specs.Sizes.{task_places}

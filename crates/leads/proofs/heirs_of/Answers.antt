@@ -1,7 +1,6 @@
 -- `leads::heirs_of` meets its contract. The loop: the places passed hold their mutexes' heirs.
 use borrow.Author.Rules.{rules}
 use mathlib.Core.Path.{ap, ◌∙◌}
-use Prim.Native.Nat.{◌-◌}
 use native.Mathlib.Omega.{arith}
 use Rattle.lists.specs.FillLaws.{fill_done, fill_more, fill_none}
 use Rattle.rules.specs.Sizes.{max_mutexes}

@@ -1,7 +1,6 @@
 -- `leads::none_waits` meets its contract. The loop carries the test of the places passed. Assumes nothing.
 use borrow.Author.Rules.{rules}
 use mathlib.Core.Path.{refl, ◌∙◌}
-use Prim.Native.Nat.{◌-◌}
 use native.Mathlib.Omega.{arith}
 use Rattle.lists.specs.LoopLaws.{all_none, fits_more, fits_done}
 use Rattle.rules.specs.Sizes.{task_places}

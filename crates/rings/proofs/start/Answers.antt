@@ -1,7 +1,6 @@
 -- `start`: the sum is the start of queue i, and no place so far had more than `area_most` words.
 use borrow.Author.Rules.{rules}
 use mathlib.Core.Path.{◌≡◌, sym, ap, ◌∙◌}
-use Prim.Native.Nat.{◌-◌}
 use native.Mathlib.Omega.{arith}
 use Rattle.rings.specs.Starts.{start_of}
 use Rattle.rings.specs.StartsLaws.{start_zero, start_more, at_most_in}

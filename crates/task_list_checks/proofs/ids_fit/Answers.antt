@@ -1,6 +1,6 @@
 -- `task_list_checks::ids_fit` meets its contract. The loop carries the test of the places passed. Assumes nothing.
 use borrow.Author.Rules.{rules}
-use Rattle.std.proofs.Common.{◌-◌, Bool, ap, ◌∙◌, arith, rules}
+use Rattle.std.proofs.Common.{Bool, ap, ◌∙◌, arith, rules}
 use Rattle.lists.specs.Test.{◌and◌}
 use Rattle.lists.specs.LoopLaws.{all_none, fits_more, fits_done}
 use Rattle.rules.specs.Sizes.{task_places}

@@ -1,6 +1,6 @@
 -- `task_list_checks::used_places` meets its contract. The loop: the places passed have their flags.
 use borrow.Author.Rules.{rules}
-use Rattle.std.proofs.Common.{◌-◌, arith, rules}
+use Rattle.std.proofs.Common.{arith, rules}
 use Rattle.lists.specs.FillLaws.{fill_done, fill_more, fill_none}
 use Rattle.rules.specs.Sizes.{task_places}
 use Rattle.task_lists.specs.TaskList.{used_at, used_places}

@@ -1,7 +1,6 @@
 -- `task_lists::every_id` meets its contract. The loop: the places passed hold their numbers.
 use borrow.Author.Rules.{rules}
 use mathlib.Core.Path.{refl, ◌∙◌}
-use Prim.Native.Nat.{◌-◌}
 use native.Mathlib.Omega.{arith}
 use Rattle.lists.specs.FillLaws.{fill_done, fill_more, fill_none}
 use Rattle.task_lists.specs.TaskList.{places}

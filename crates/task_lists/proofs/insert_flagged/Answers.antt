@@ -1,8 +1,7 @@
 -- `task_lists::insert_flagged` meets its contract. The loop: the table and its count, with the tasks of the order still to come tried, are the whole list.
 use borrow.Author.Rules.{rules}
 use mathlib.Core.Path.{◌≡◌, refl, sym, ◌∙◌}
-use mathlib.Core.Logic.{⊎_elim}
-use Prim.Native.Nat.{◌-◌, ◌<◌}
+use Prim.Native.Nat.{◌<◌}
 use native.Mathlib.Omega.{arith}
 use lib.ListN.{length}
 use Rattle.task_lists.specs.TaskList.{places, items, first_ids}

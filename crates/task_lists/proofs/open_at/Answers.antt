@@ -1,7 +1,7 @@
 -- `task_lists::open_at` meets its contract. The loop: the table with the carried id at this place, what is behind it one place on, is the table with the new id at its own.
 use borrow.Author.Rules.{rules}
 use mathlib.Core.Path.{◌≡◌, refl, ◌∙◌}
-use Prim.Native.Nat.{◌+◌, ◌-◌}
+use Prim.Native.Nat.{◌+◌}
 use native.Mathlib.Omega.{arith}
 use lib.ListN.{length-set}
 use lib.Seq.{drop-set-lt}

@@ -1,5 +1,4 @@
 -- `task_lists::place_in` meets its contract. The loop: the place among the ids that are left, counted from the first of all, is the place sought.
-use Prim.Native.Nat.{◌-◌}
 use native.Mathlib.Omega.{arith}
 use lib.ListN.{length-take}
 use Rattle.task_lists.specs.TaskList.{first_ids}

@@ -1,7 +1,7 @@
 -- `task_lists::waiters_of` meets its contract. The loop: the ids written and their count are the list of those of the items passed that wait for the object.
 use borrow.Author.Rules.{rules}
 use mathlib.Core.Path.{◌≡◌, sym, ◌∙◌}
-use Prim.Native.Nat.{◌-◌, ◌<◌}
+use Prim.Native.Nat.{◌<◌}
 use native.Mathlib.Omega.{arith}
 use lib.ListN.{length}
 use lib.Seq.{take-length}

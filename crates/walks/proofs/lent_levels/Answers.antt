@@ -1,6 +1,5 @@
 -- `walks::lent_levels` meets its contract. The loop keeps what the first i tasks lend. Assumes nothing.
 use borrow.Author.Rules.{rules}
-use Prim.Native.Nat.{◌-◌}
 use native.Mathlib.Omega.{arith}
 use Rattle.rules.specs.Sizes.{task_places}
 use Rattle.walks.proofs.Laws.{lent_none, lent_step, lent_done}

@@ -1,8 +1,7 @@
 -- `walks::levels_of` meets its contract. The loop keeps the levels after the first j tasks. Assumes nothing.
 use mathlib.Core.Path.{◌∙◌}
-use mathlib.Core.Logic.{inl, inr}
 use native.Mathlib.Omega.{arith}
-use Prim.Native.Nat.{◌-◌, min}
+use Prim.Native.Nat.{min}
 use Rattle.rules.specs.Sizes.{task_places}
 use Rattle.walks.proofs.Laws.{raised_none, raised_step, raised_alone, raised_done}
 use Rattle.walks.proofs.levels_of.Goals as goal

@@ -1,6 +1,5 @@
 -- `text::cut::find`: no b was passed, so the first one is where it was.
 use mathlib.Core.Path.{refl, ap}
-use Prim.Native.Nat.{◌-◌}
 use native.Mathlib.Omega.{arith}
 use lib.ListN.{length}
 use Rattle.text.specs.CutLaws.{up_to_hit, up_to_miss, up_to_end}

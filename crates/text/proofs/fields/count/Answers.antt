@@ -1,6 +1,4 @@
 -- `text::fields::count`: the fields that were ended and those of what is left are the line's.
-use mathlib.Core.Logic.{⊎_elim}
-use Prim.Native.Nat.{◌-◌}
 use native.Mathlib.Omega.{arith}
 use Rattle.text.specs.FieldsLaws.{count_tab, count_other, count_end}
 use Rattle.text.proofs.fields.count.Goals as goal

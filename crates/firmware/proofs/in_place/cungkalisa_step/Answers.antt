@@ -33,7 +33,6 @@ use denote.Signature.{plain}
 use denote.Steps.{opens, closes, owned, peeks, heard, nothing, only}
 use denote.Struct.Steps.{spelt}
 use denote.Struct.Laws as LL
-use denote.Triple.Statement.{Contract, Triple}
 use denote.Triple.Call.{calls_at}
 use denote.Triple.Entry.{on_entry}
 use denote.Triple.Spec.{Meets, triple_of}
@@ -82,6 +81,7 @@ use Rattle.firmware.specs.contracts.in_place.cungkalisa_step.Key.{name as #f}
 use Rattle.firmware.specs.contracts.in_place.cungkalisa_step as f
 use Rattle.firmware.proofs.in_place.cungkalisa_step.Statement as stated
 use Rattle.firmware.proofs.in_place.cungkalisa_step.Code as code
+use Rattle.firmware.proofs.in_place.cungkalisa_step.Goals as goal
 
 abbrev Words : Type 0
 Words = Bor (List ℕ)
@@ -117,25 +117,7 @@ abbrev after : State → List ℕ → Held
 after s ws = record { state = s; words = ws }
 
 -- the table out of the struct, and back into it with any words
-module _ {M : Type 1} {𝓤 : Ura M} (𝓛 : Logic 𝓤) (b o : ℕ) where
-  abbrev kept : Held → Item 𝓤
-  kept h = kept_record_as B.the_type B'.the_laws 1 off Table (λ ws. ws) (λ ws. ws) (λ ws b o. List-same u32 128 full_share ws b o) (λ ws b o. sym (List-same u32 128 full_share ws b o)) (B.struct).as_values (B.struct).Ghost (B.struct).make (λ _. tt) (λ _. refl) (λ _ _. refl) M 𝓤 𝓛 h b o
-
-  apart : (h : Held) → ent 𝓤 (sem 𝓛 (part_at B.the_row full_share h b o)) (sep 𝓤 (sem 𝓛 (part_at Table full_share h.words b (o + off))) (mean 𝓛 (kept h)))
-  apart h = record_apart_as B.the_type B'.the_laws 1 off Table (λ ws. ws) (λ ws. ws) (λ ws b o. List-same u32 128 full_share ws b o) (λ ws b o. sym (List-same u32 128 full_share ws b o)) (B.struct).as_values (B.struct).Ghost (B.struct).make (λ _. tt) (λ _. refl) (λ _ _. refl) 𝓛 refl refl h b o
-
-  filled : (h : Held) (ws : List ℕ) → ent 𝓤 (sep 𝓤 (sem 𝓛 (part_at Table full_share ws b (o + off))) (mean 𝓛 (kept h))) (sem 𝓛 (part_at B.the_row full_share (after h.state ws) b o))
-  filled h ws = record_fill_as B.the_type B'.the_laws 1 off Table (λ ws. ws) (λ ws. ws) (λ ws b o. List-same u32 128 full_share ws b o) (λ ws b o. sym (List-same u32 128 full_share ws b o)) (B.struct).as_values (B.struct).Ghost (B.struct).make (λ _. tt) (λ _. refl) (λ _ _. refl) refl M 𝓤 𝓛 h ws b o
-
-  -- the struct in memory, from its cell, and back
-  to_mem : (h : Held) → ent 𝓤 (sep 𝓤 (sem 𝓛 (cell_at full_share (B.the_row).mir (vals h) b o)) (sem 𝓛 ((B.the_row).own_val h (vals h)))) (sem 𝓛 (part_at B.the_row full_share h b o))
-  unfolding part_of
-  to_mem h = qed 𝓛 (‵ (cell_at full_share (B.the_row).mir (vals h) b o) ∷ ‵ ((B.the_row).own_val h (vals h)) ∷ []) ∵ fjoin ! $ fpack ! (List Val) (λ us. fsep (cell_at full_share (B.the_row).mir us b o) ((B.the_row).own_val h us)) (vals h) $ done !
-
-  from_mem : (h : Held) → ent 𝓤 (sem 𝓛 (part_at B.the_row full_share h b o)) (sep 𝓤 (sem 𝓛 (cell_at full_share (B.the_row).mir (vals h) b o)) (sem 𝓛 ((B.the_row).own_val h (vals h))))
-  unfolding part_of
-  from_mem h = qed 𝓛 (‵ (part_at B.the_row full_share h b o) ∷ []) ∵ fpick ! (λ vs. fsplit ! $ spelt ! B.the_row (Is B.the_row) (shows 𝓛 B.the_row) vals (LL.tells B.the_type B'.the_laws) full_share h vs b o $ done !)
-
+module _ {M : Type 1} {𝓤 : Ura M} (𝓛 : Logic 𝓤) (b o : ℕ) where abbrev kept : Held → Item 𝓤 kept h = kept_record_as B.the_type B'.the_laws 1 off Table (λ ws. ws) (λ ws. ws) (λ ws b o. List-same u32 128 full_share ws b o) (λ ws b o. sym (List-same u32 128 full_share ws b o)) (B.struct).as_values (B.struct).Ghost (B.struct).make (λ _. tt) (λ _. refl) (λ _ _. refl) M 𝓤 𝓛 h b o  apart : (h : Held) → ent 𝓤 (sem 𝓛 (part_at B.the_row full_share h b o)) (sep 𝓤 (sem 𝓛 (part_at Table full_share h.words b (o + off))) (mean 𝓛 (kept h))) apart h = record_apart_as B.the_type B'.the_laws 1 off Table (λ ws. ws) (λ ws. ws) (λ ws b o. List-same u32 128 full_share ws b o) (λ ws b o. sym (List-same u32 128 full_share ws b o)) (B.struct).as_values (B.struct).Ghost (B.struct).make (λ _. tt) (λ _. refl) (λ _ _. refl) 𝓛 refl refl h b o  filled : (h : Held) (ws : List ℕ) → ent 𝓤 (sep 𝓤 (sem 𝓛 (part_at Table full_share ws b (o + off))) (mean 𝓛 (kept h))) (sem 𝓛 (part_at B.the_row full_share (after h.state ws) b o)) filled h ws = record_fill_as B.the_type B'.the_laws 1 off Table (λ ws. ws) (λ ws. ws) (λ ws b o. List-same u32 128 full_share ws b o) (λ ws b o. sym (List-same u32 128 full_share ws b o)) (B.struct).as_values (B.struct).Ghost (B.struct).make (λ _. tt) (λ _. refl) (λ _ _. refl) refl M 𝓤 𝓛 h ws b o  -- the struct in memory, from its cell, and back to_mem : (h : Held) → ent 𝓤 (sep 𝓤 (sem 𝓛 (cell_at full_share (B.the_row).mir (vals h) b o)) (sem 𝓛 ((B.the_row).own_val h (vals h)))) (sem 𝓛 (part_at B.the_row full_share h b o)) unfolding part_of to_mem h = qed 𝓛 (‵ (cell_at full_share (B.the_row).mir (vals h) b o) ∷ ‵ ((B.the_row).own_val h (vals h)) ∷ []) ∵ fjoin ! $ fpack ! (List Val) (λ us. fsep (cell_at full_share (B.the_row).mir us b o) ((B.the_row).own_val h us)) (vals h) $ done !  from_mem : (h : Held) → ent 𝓤 (sem 𝓛 (part_at B.the_row full_share h b o)) (sep 𝓤 (sem 𝓛 (cell_at full_share (B.the_row).mir (vals h) b o)) (sem 𝓛 ((B.the_row).own_val h (vals h)))) unfolding part_of from_mem h = qed 𝓛 (‵ (part_at B.the_row full_share h b o) ∷ []) ∵ fpick ! (λ vs. fsplit ! $ spelt ! B.the_row (Is B.the_row) (shows 𝓛 B.the_row) vals (LL.tells B.the_type B'.the_laws) full_share h vs b o $ done !) 
 module _ {M : Type 1} {𝓤 : Ura M} (𝓛 : Logic 𝓤) (at_mem : Memory → SProp 𝓤) (run : Routine → Fun 𝓤) where
   abbrev Made : Contract 𝓤
   Made = triple_of 𝓛 g.signature (g.spec 𝓛 at_mem run)
@@ -325,8 +307,7 @@ module _ {M : Type 1} {𝓤 : Ura M} (𝓛 : Logic 𝓤) (at_mem : Memory → SP
   goes : AllGo 𝓛 3 (f.signature).params (f.ended).kept stayed
   goes = (Goes-ref 𝓛 3 0 tt (plain (λ _. B.the_row)), (Goes-none 𝓛 3 (λ _. u32) yes (λ κs x f. refl), (Goes-none 𝓛 3 (λ _. u32) yes (λ κs x f. refl), (Goes-none 𝓛 3 (λ _. u32) yes (λ κs x f. refl), (Goes-none 𝓛 3 (λ _. u32) yes (λ κs x f. refl), (Goes-none_slice 𝓛 3 (1 ∷ []) tt (plain (λ _. u32)) yes, (Goes-gave_slice 𝓛 3 2 tt (plain (λ _. u32)), tt)))))))
 
-meets : {M : Type 1} {𝓤 : Ura M} (𝓛 : Logic 𝓤) (at_mem : Memory → SProp 𝓤) (run : Routine → Fun 𝓤) (𝓣 : Tables 𝓤 𝓛.H) → Triple 𝓤 (𝓣.C #made) (Made 𝓛 at_mem run) → Triple 𝓤 (𝓣.C #state-of) (StateOf 𝓛 at_mem run) → Triple 𝓤 (𝓣.C #answer-of) (AnswerOf 𝓛 at_mem run)
-    → Meets 𝓛 f.signature (WpFn 𝓤 𝓛.H 𝓣.C 𝓣.Λ code.function) (f.spec 𝓛 at_mem run)
+meets : {M : Type 1} {𝓤 : Ura M} (𝓛 : Logic 𝓤) (at_mem : Memory → SProp 𝓤) (run : Routine → Fun 𝓤) (𝓣 : Tables 𝓤 𝓛.H) → Triple 𝓤 (𝓣.C #made) (Made 𝓛 at_mem run) → Triple 𝓤 (𝓣.C #state-of) (StateOf 𝓛 at_mem run) → Triple 𝓤 (𝓣.C #answer-of) (AnswerOf 𝓛 at_mem run) → Meets 𝓛 f.signature (WpFn 𝓤 𝓛.H 𝓣.C 𝓣.Λ code.function) (f.spec 𝓛 at_mem run)
 meets {𝓤 = 𝓤} 𝓛 at_mem run 𝓣 known known-s known-r = walk_Meets 𝓛 f.ended stayed (goes 𝓛 at_mem run) (f.clauses 𝓛 at_mem run) (WpFn 𝓤 𝓛.H 𝓣.C 𝓣.Λ code.function) (WpFn-mono 𝓤 𝓛.H 𝓛.laws 𝓣 code.function) (walks 𝓛 at_mem run 𝓣.C 𝓣.Λ (fm_of 𝓤 𝓛.H 𝓛.laws 𝓣) known known-s known-r)
 
 pub cungkalisa_step_spec : {M : Type 1} → stated.statement M

@@ -26,7 +26,6 @@ use denote.Signature.{plain}
 use denote.Steps.{opens, closes, peeks, heard, nothing}
 use denote.Struct.Steps.{spelt}
 use denote.Struct.Laws as LL
-use denote.Triple.Statement.{Contract, Triple}
 use denote.Triple.Call.{calls_at}
 use denote.Triple.Entry.{on_entry}
 use denote.Triple.Spec.{Meets, triple_of}
@@ -45,6 +44,7 @@ use Rattle.firmware.specs.contracts.in_place.cungkalisa_fresh.Key.{name as #cung
 use Rattle.firmware.specs.contracts.in_place.cungkalisa_fresh as f
 use Rattle.firmware.proofs.in_place.cungkalisa_fresh.Statement as stated
 use Rattle.firmware.proofs.in_place.cungkalisa_fresh.Code as code
+use Rattle.firmware.proofs.in_place.cungkalisa_fresh.Goals as goal
 
 abbrev Arg : Type 0
 Arg = MutBor Held × Unit {0}
@@ -55,13 +55,7 @@ stayed = (stay_ref (0 ∷ []) tt (plain (λ _. T.the_row)), tt)
 abbrev vals : Held → List Val
 vals = LL.vals T.the_type T'.the_laws
 
-module _ {M : Type 1} {𝓤 : Ura M} (𝓛 : Logic 𝓤) (at_mem : Memory → SProp 𝓤) (run : Routine → Fun 𝓤) where
-  abbrev Fresh : Contract 𝓤
-  Fresh = triple_of 𝓛 g.signature (g.spec 𝓛 at_mem run)
-
-  fresh-of : (r : Held) → ent 𝓤 (ensured 𝓛 g.ended (g.clauses 𝓛 at_mem run) tt tt tt r) (fact 𝓤 (r ≡ fresh_held))
-  fresh-of r = ex_e 𝓤 _ (λ ws. snd∗ 𝓤 (sem 𝓛 (lasts g.ended tt tt ws)) (fact 𝓤 (r ≡ fresh_held)))
-
+module _ {M : Type 1} {𝓤 : Ura M} (𝓛 : Logic 𝓤) (at_mem : Memory → SProp 𝓤) (run : Routine → Fun 𝓤) where abbrev Fresh : Contract 𝓤 Fresh = triple_of 𝓛 g.signature (g.spec 𝓛 at_mem run)  fresh-of : (r : Held) → ent 𝓤 (ensured 𝓛 g.ended (g.clauses 𝓛 at_mem run) tt tt tt r) (fact 𝓤 (r ≡ fresh_held)) fresh-of r = ex_e 𝓤 _ (λ ws. snd∗ 𝓤 (sem 𝓛 (lasts g.ended tt tt ws)) (fact 𝓤 (r ≡ fresh_held))) 
 module _ {M : Type 1} {𝓤 : Ura M} (𝓛 : Logic 𝓤) (at_mem : Memory → SProp 𝓤) (run : Routine → Fun 𝓤) (κ : Lft) (q : Share) (b o : ℕ) (γ : GName) (h : Held) where
   open 𝓛 use {H, A}
 
@@ -120,8 +114,7 @@ module _ {M : Type 1} {𝓤 : Ura M} (𝓛 : Logic 𝓤) (at_mem : Memory → SP
   goes : AllGo 𝓛 1 (f.signature).params (f.ended).kept stayed
   goes = (Goes-ref 𝓛 1 0 tt (plain (λ _. T.the_row)), tt)
 
-meets : {M : Type 1} {𝓤 : Ura M} (𝓛 : Logic 𝓤) (at_mem : Memory → SProp 𝓤) (run : Routine → Fun 𝓤) (𝓣 : Tables 𝓤 𝓛.H) → Triple 𝓤 (𝓣.C #fresh) (Fresh 𝓛 at_mem run)
-    → Meets 𝓛 f.signature (WpFn 𝓤 𝓛.H 𝓣.C 𝓣.Λ code.function) (f.spec 𝓛 at_mem run)
+meets : {M : Type 1} {𝓤 : Ura M} (𝓛 : Logic 𝓤) (at_mem : Memory → SProp 𝓤) (run : Routine → Fun 𝓤) (𝓣 : Tables 𝓤 𝓛.H) → Triple 𝓤 (𝓣.C #fresh) (Fresh 𝓛 at_mem run) → Meets 𝓛 f.signature (WpFn 𝓤 𝓛.H 𝓣.C 𝓣.Λ code.function) (f.spec 𝓛 at_mem run)
 meets {𝓤 = 𝓤} 𝓛 at_mem run 𝓣 known = walk_Meets 𝓛 f.ended stayed (goes 𝓛 at_mem run) (f.clauses 𝓛 at_mem run) (WpFn 𝓤 𝓛.H 𝓣.C 𝓣.Λ code.function) (WpFn-mono 𝓤 𝓛.H 𝓛.laws 𝓣 code.function) (walks 𝓛 at_mem run 𝓣.C 𝓣.Λ (fm_of 𝓤 𝓛.H 𝓛.laws 𝓣) known)
 
 pub cungkalisa_fresh_spec : {M : Type 1} → stated.statement M

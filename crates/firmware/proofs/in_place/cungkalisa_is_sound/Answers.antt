@@ -28,7 +28,6 @@ use denote.Signature.{plain}
 use denote.Steps.{looks, shuts, owned, peeks, heard, nothing}
 use denote.Struct.Steps.{spelt}
 use denote.Struct.Laws as LL
-use denote.Triple.Statement.{Contract, Triple}
 use denote.Triple.Call.{calls_at}
 use denote.Triple.Entry.{on_entry}
 use denote.Triple.Spec.{Meets, triple_of}
@@ -49,6 +48,7 @@ use Rattle.firmware.specs.contracts.in_place.cungkalisa_is_sound.Key.{name as #c
 use Rattle.firmware.specs.contracts.in_place.cungkalisa_is_sound as f
 use Rattle.firmware.proofs.in_place.cungkalisa_is_sound.Statement as stated
 use Rattle.firmware.proofs.in_place.cungkalisa_is_sound.Code as code
+use Rattle.firmware.proofs.in_place.cungkalisa_is_sound.Goals as goal
 
 abbrev Arg : Type 0
 Arg = Bor Held × (ℕ × Unit {0})
@@ -63,13 +63,7 @@ Says h n r = (block : List ℕ) → length block ≡ n → r ≡ sound_of (whole
 abbrev vals : Held → List Val
 vals = LL.vals T.the_type T'.the_laws
 
-module _ {M : Type 1} {𝓤 : Ura M} (𝓛 : Logic 𝓤) (at_mem : Memory → SProp 𝓤) (run : Routine → Fun 𝓤) where
-  abbrev Tested : Contract 𝓤
-  Tested = triple_of 𝓛 g.signature (g.spec 𝓛 at_mem run)
-
-  sound-of : (h : Held) (n : ℕ) (r : Bool) → ent 𝓤 (ensured 𝓛 g.ended (g.clauses 𝓛 at_mem run) tt (h, (n, tt)) tt r) (fact 𝓤 (Says h n r))
-  sound-of h n r = ex_e 𝓤 _ (λ ws. snd∗ 𝓤 (sem 𝓛 (lasts g.ended tt (h, (n, tt)) ws)) (fact 𝓤 (Says h n r)))
-
+module _ {M : Type 1} {𝓤 : Ura M} (𝓛 : Logic 𝓤) (at_mem : Memory → SProp 𝓤) (run : Routine → Fun 𝓤) where abbrev Tested : Contract 𝓤 Tested = triple_of 𝓛 g.signature (g.spec 𝓛 at_mem run)  sound-of : (h : Held) (n : ℕ) (r : Bool) → ent 𝓤 (ensured 𝓛 g.ended (g.clauses 𝓛 at_mem run) tt (h, (n, tt)) tt r) (fact 𝓤 (Says h n r)) sound-of h n r = ex_e 𝓤 _ (λ ws. snd∗ 𝓤 (sem 𝓛 (lasts g.ended tt (h, (n, tt)) ws)) (fact 𝓤 (Says h n r))) 
 module _ {M : Type 1} {𝓤 : Ura M} (𝓛 : Logic 𝓤) (at_mem : Memory → SProp 𝓤) (run : Routine → Fun 𝓤) (κ : Lft) (q : Share) (b o : ℕ) (γ : GName) (h : Held) (n : ℕ) (fits-n : n < 2 ^ 64) where
   open 𝓛 use {H, A}
 
@@ -128,8 +122,7 @@ module _ {M : Type 1} {𝓤 : Ura M} (𝓛 : Logic 𝓤) (at_mem : Memory → SP
   goes : AllGo 𝓛 1 (f.signature).params (f.ended).kept stayed
   goes = (Goes-none_ref 𝓛 1 (0 ∷ []) tt (plain (λ _. T.the_row)) yes, (Goes-none 𝓛 1 (λ _. usize) yes (λ κs x f. refl), tt))
 
-meets : {M : Type 1} {𝓤 : Ura M} (𝓛 : Logic 𝓤) (at_mem : Memory → SProp 𝓤) (run : Routine → Fun 𝓤) (𝓣 : Tables 𝓤 𝓛.H) → Triple 𝓤 (𝓣.C #tested) (Tested 𝓛 at_mem run)
-    → Meets 𝓛 f.signature (WpFn 𝓤 𝓛.H 𝓣.C 𝓣.Λ code.function) (f.spec 𝓛 at_mem run)
+meets : {M : Type 1} {𝓤 : Ura M} (𝓛 : Logic 𝓤) (at_mem : Memory → SProp 𝓤) (run : Routine → Fun 𝓤) (𝓣 : Tables 𝓤 𝓛.H) → Triple 𝓤 (𝓣.C #tested) (Tested 𝓛 at_mem run) → Meets 𝓛 f.signature (WpFn 𝓤 𝓛.H 𝓣.C 𝓣.Λ code.function) (f.spec 𝓛 at_mem run)
 meets {𝓤 = 𝓤} 𝓛 at_mem run 𝓣 known = walk_Meets 𝓛 f.ended stayed (goes 𝓛 at_mem run) (f.clauses 𝓛 at_mem run) (WpFn 𝓤 𝓛.H 𝓣.C 𝓣.Λ code.function) (WpFn-mono 𝓤 𝓛.H 𝓛.laws 𝓣 code.function) (walks 𝓛 at_mem run 𝓣.C 𝓣.Λ (fm_of 𝓤 𝓛.H 𝓛.laws 𝓣) known)
 
 pub cungkalisa_is_sound_spec : {M : Type 1} → stated.statement M
