@@ -15,7 +15,7 @@ use Rattle.rules.specs.Sizes.{task_places, max_mutexes, max_semaphores, max_queu
 use Rattle.rules.specs.Tables.{task_count, mutex_count, sem_count, queue_count, outcome_of, owner_of}
 use Rattle.rules.specs.Levels.{level_in}
 use Rattle.rules.specs.Sound.{columnsb, sizesb, rangesb, clockb, ownersb, ascendingb, none_in, runsb, holdb, urgent_top, urgentb, set_upb, tablesb, soundb}
-use Rattle.rules.specs.SoundLaws.{tables_facts}
+use Rattle.rules.proofs.SoundLaws.{tables_facts}
 use Rattle.task_lists.specs.TaskList.{no_id, items, key_of}
 use Rattle.walks.specs.Walk.{task_at}
 use Rattle.walks.specs.WalkLaws.{task_in}

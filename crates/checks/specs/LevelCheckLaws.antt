@@ -19,8 +19,8 @@ use Rattle.rules.specs.Tables.{Tables, task_count, priority_of, wait_of, owner_o
 use Rattle.rules.specs.Levels.{owner_awaited, of_wait, next, lends, level_in}
 use Rattle.rules.specs.Sound.{ownersb, no_ringb}
 use Rattle.rules.specs.Invariant.{Facts}
-use Rattle.rules.specs.SoundLaws.{owner_there, queue_owner_there}
-use Rattle.rules.specs.LevelLaws.{of_wait_lem, owner_awaited_lem, next_ended, level_recursive, level_only}
+use Rattle.rules.proofs.SoundLaws.{owner_there, queue_owner_there}
+use Rattle.rules.proofs.LevelLaws.{of_wait_lem, owner_awaited_lem, next_ended, level_recursive, level_only}
 use Rattle.task_lists.specs.TaskList.{key_of}
 use Rattle.walks.specs.Walk.{task_at, next_in, lent_by}
 use Rattle.walks.specs.WalkLaws.{ends_ext, least_ext, lent_ext}

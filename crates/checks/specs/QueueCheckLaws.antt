@@ -14,12 +14,12 @@ use Rattle.lists.specs.TableLaws.{get_d_filled}
 use Rattle.rules.specs.Sizes.{task_places, max_queues, held_words}
 use Rattle.rules.specs.Tables.{task_count, queue_count, words_of, width_of, depth_of, queue_owner_of, messages_of, taken_by, space_taken}
 use Rattle.rules.specs.Sound.{is_width, is_depth, messagesb, queueb, queuesb, wordsb, pastb, existsb}
-use Rattle.rules.specs.QueueLaws.{width_range}
+use Rattle.rules.proofs.QueueLaws.{width_range}
 use Rattle.rings.specs.Ring.{message, Sits}
-use Rattle.rings.specs.RingLaws.{length_message}
+use Rattle.rings.proofs.RingLaws.{length_message}
 use Rattle.rings.specs.Starts.{start_of, at_most_all, start_in}
-use Rattle.rings.specs.StartsLaws.{start_same, start_behind, at_most_below, at_most_all_lem}
-use Rattle.rings.specs.WordsLaws.{length_words}
+use Rattle.rings.proofs.StartsLaws.{start_same, start_behind, at_most_below, at_most_all_lem}
+use Rattle.rings.proofs.WordsLaws.{length_words}
 use Rattle.record.specs.Record.{ring_at, view_tables}
 use Rattle.record.specs.Whole.{whole}
 use Rattle.record.specs.SoundRecord.{tidyb, words_tidyb}

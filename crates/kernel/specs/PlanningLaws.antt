@@ -9,7 +9,7 @@ use Rattle.record.specs.Whole.{whole}
 use Rattle.record.specs.StepRecord.{step_for, answer_for, stays, standing_by, standing_in, step_by}
 use Rattle.machine.specs.Machine.{machine_step}
 use Rattle.machine.specs.Planned.{carried}
-use Rattle.machine.specs.MachineLaws.{sound_step}
+use Rattle.machine.proofs.MachineLaws.{sound_step}
 use Rattle.kernel.specs.Planning.{formed_by, unmoved, planned, Gives}
 use Rattle.record.specs.declared.State.{State}  -- keep
 use Rattle.record.specs.declared.Answer.{Answer}  -- keep

@@ -1,24 +1,3 @@
 -- What each function of the steps answers, and that on a sound record it is the packed rule.
 pub mod Machine
 pub mod Planned
-pub mod StageLaws
-pub mod ReadyLevelLaws
-pub mod DispatchLaws
-pub mod FlagLaws
-pub mod WaitLaws
-pub mod EffectLaws
-pub mod ObjectLaws
-pub mod QueueObjectLaws
-pub mod PartLaws
-pub mod TimedLaws
-pub mod RowLaws
-pub mod FinishLaws
-pub mod PlainStepLaws
-pub mod WaitStepLaws
-pub mod LockStepLaws
-pub mod SendStepLaws
-pub mod ReceiveStepLaws
-pub mod QueueSetUpLaws
-pub mod PerformLaws
-pub mod TickStepLaws
-pub mod MachineLaws

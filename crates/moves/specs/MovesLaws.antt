@@ -4,8 +4,8 @@ use Rattle.std.proofs.Common.{ap, sym, ◌∙◌, inl, inr, arith, length-take}
 use Rattle.lists.specs.TestLaws.{which}
 use Rattle.rings.specs.Words.{words, laid, padded}
 use Rattle.rings.specs.Held.{eight, held}
-use Rattle.rings.specs.WordsLaws.{length_words, length_laid, padded_full}
-use Rattle.rings.specs.HeldLaws.{length_held, held_other, held_front}
+use Rattle.rings.proofs.WordsLaws.{length_words, length_laid, padded_full}
+use Rattle.rings.proofs.HeldLaws.{length_held, held_other, held_front}
 use Rattle.moves.specs.Fits.{can_hold, can_queue, can_take, can_swap, Holds, Takes, Swaps}
 use Rattle.moves.specs.Moves.{hold_words, queue_block, take_words, swap_words, swap_block, words_after, block_after}
 use Rattle.moves.specs.FitsLaws.{holds, holds_test, queues, queues_test, takes, takes_test, swaps, swaps_test}

@@ -5,9 +5,9 @@ use native.Mathlib.Omega.{arith}
 use native.Mathlib.Nat.{mul-le-mul}
 use lib.ListN.{get_or}
 use Rattle.rings.specs.Ring.{slot_of}
-use Rattle.rings.specs.RingLaws.{slot_case}
+use Rattle.rings.proofs.RingLaws.{slot_case}
 use Rattle.rings.specs.Starts.{queue_places, area_most, start_of, start_in, at_most_all}
-use Rattle.rings.specs.StartsLaws.{at_most_in}
+use Rattle.rings.proofs.StartsLaws.{at_most_in}
 use mathlib.Core.Logic.{inl, inr}
 
 module _ (ws ds : List ℕ) (w : (i : ℕ) → get_or ws i 0 < 256) (d : (i : ℕ) → get_or ds i 0 < 256) where

@@ -21,7 +21,7 @@ use Rattle.moves.specs.declared.Move.TheVariants.{Hold as HoldWords, Swap}  -- k
 use Rattle.machine.specs.declared.Order.{Order}  -- keep
 use Rattle.machine.specs.declared.Turn.{Turn}  -- keep
 use Rattle.machine.specs.Machine.{single, order_behind, put_order, settled, turn_of, put_turn, dispatched, woke, entered, blocked_on, width_at, depth_at, used_at, oldest_set, next_oldest, place_at, answer_in, answer_moving, wait_refusal, may_wait, timed_refusal, owners_from, best_at, send_blocked, send_waits, delivered, send_step, sent_off, taken_in}
-use Rattle.machine.specs.TimedLaws.{send_passed}
+use Rattle.machine.proofs.TimedLaws.{send_passed}
 
 -- levels and order by the queue's owner, and then the running task chosen: where somebody begins to wait for room, and where w did
 module _ (k : State) (owner : ℕ) (o : Order) (u : Turn) (e : o ≡ order_behind owner k.tasks k.mutexes k.queues k.ready) where

@@ -11,13 +11,13 @@ use Rattle.rules.specs.Step.{Step, task, mutex, sem, start, lock, unlock, pend, 
 use Rattle.rules.specs.Effect.{Effect, caller_waits, deliver, send_by, sent_by, take_in, receive_by, effect}
 use Rattle.rules.specs.Refusal.{Row, no_room, refusals, first_row}
 use Rattle.rules.specs.Invariant.{Inv}
-use Rattle.rules.specs.MessageLaws.{sent_wide}
-use Rattle.rules.specs.StepLaws.{passed, called_by_lem, caller_in, caller_idle}
-use Rattle.rules.specs.RefusalLaws.{refused_number, refused_above}
+use Rattle.rules.proofs.MessageLaws.{sent_wide}
+use Rattle.rules.proofs.StepLaws.{passed, called_by_lem, caller_in, caller_idle}
+use Rattle.rules.proofs.RefusalLaws.{refused_number, refused_above}
 use Rattle.rings.specs.Words.{laid, Off}
-use Rattle.rings.specs.WordsLaws.{laid_word}
+use Rattle.rings.proofs.WordsLaws.{laid_word}
 use Rattle.rings.specs.Ring.{spot}
-use Rattle.rings.specs.RingLaws.{spot_in}
+use Rattle.rings.proofs.RingLaws.{spot_in}
 use Rattle.record.specs.Record.{ring_at, view_tables, view, pack_queues, pack, oldest_in}
 use Rattle.record.specs.Whole.{Whole}
 use Rattle.record.specs.Layout.{ring_of, Stands, packed}

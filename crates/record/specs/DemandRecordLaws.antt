@@ -10,12 +10,12 @@ use Rattle.rules.specs.Step.{Step, task, mutex, sem, start, lock, unlock, pend, 
 use Rattle.rules.specs.Refusal.{Row, refusals, first_row}
 use Rattle.rules.specs.Log.{log_line, with_room, Call, in_room, call}
 use Rattle.rules.specs.Invariant.{Inv}
-use Rattle.rules.specs.StepLaws.{step_inv, fresh_inv}
-use Rattle.rules.specs.SoundLaws.{inv_sound}
+use Rattle.rules.proofs.StepLaws.{step_inv, fresh_inv}
+use Rattle.rules.proofs.SoundLaws.{inv_sound}
 use Rattle.rules.specs.Demand.{event_of, events, after}
-use Rattle.rules.specs.RefusalLaws.{call_by, refused_unchanged}
-use Rattle.rules.specs.RefusalLaws as R
-use Rattle.rules.specs.DemandLaws.{call_inv, demand_3_from}
+use Rattle.rules.proofs.RefusalLaws.{call_by, refused_unchanged}
+use Rattle.rules.proofs.RefusalLaws as R
+use Rattle.rules.proofs.DemandLaws.{call_inv, demand_3_from}
 use Rattle.task_lists.specs.TaskList.{no_id, task_list_of, id_of}
 use Rattle.walks.specs.Walk.{task_at}
 use Rattle.record.specs.Record.{view, pack_tasks, pack_mutexes, pack_semaphores, pack_queues, pack, joined, pack_words, oldest_in}

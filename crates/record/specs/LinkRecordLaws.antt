@@ -6,7 +6,7 @@ use Rattle.lists.specs.TestLaws.{by_test}
 use Rattle.rules.specs.Tables.{mutex_of, room_in}
 use Rattle.rules.specs.Levels.{links_of}
 use Rattle.rules.specs.Step.{Step, lock, send}
-use Rattle.rules.specs.LinkLaws.{lock_links, send_links}
+use Rattle.rules.proofs.LinkLaws.{lock_links, send_links}
 use Rattle.walks.specs.Walk.{task_at}
 use Rattle.record.specs.Record.{view_tables, view}
 use Rattle.record.specs.Whole.{Whole}

@@ -16,7 +16,7 @@ use Rattle.rules.specs.Sizes.{task_places, max_mutexes, max_semaphores, max_queu
 use Rattle.rules.specs.Tables.{awaited_kind, awaited_object, outcome_of, count_of, maximum_of, kind_of, owner_of}
 use Rattle.rules.specs.Levels.{owner_awaited, heir_awaited, of_wait, next, lends, level_in}
 use Rattle.rules.specs.Invariant.{Facts}
-use Rattle.rules.specs.LevelLaws.{wait_out, lends_ended}
+use Rattle.rules.proofs.LevelLaws.{wait_out, lends_ended}
 use Rattle.task_lists.specs.TaskList.{no_id, key_of, id_of}
 use Rattle.walks.specs.Walk.{task_at, next_in, raised}
 use Rattle.walks.specs.WalkLaws.{next_in_lem, next_out, length_raised, raised_ext, raised_out}

@@ -8,7 +8,7 @@ use Rattle.std.proofs.Math.Decide.{dec_lt}
 use Rattle.std.proofs.Math.ListN.{get_or-eq_default, get_or-map, length-map}
 use Rattle.std.proofs.Math.Seq.{length-take-le, get_or-take}
 use Rattle.rings.specs.Ring.{Ring, messages}
-use Rattle.rings.specs.StartsLaws.{start_same}
+use Rattle.rings.proofs.StartsLaws.{start_same}
 use borrow.Author.Tests.{ltb-true, ltb-false, lt-ltb, le-ltb, le-leb, eq-eqb}
 use Rattle.lists.specs.Test.{◌and◌, ◌or◌, someb}
 use Rattle.lists.specs.Count.{occ, below, opt}
@@ -20,8 +20,8 @@ use Rattle.rules.specs.Sizes.{task_places, max_mutexes, max_semaphores, max_queu
 use Rattle.rules.specs.Levels.{level_in}
 use Rattle.rules.specs.Sound.{soundb}
 use Rattle.rules.specs.Invariant.{Left, Timed, Facts, Inv}
-use Rattle.rules.specs.LevelLaws.{wait_out}
-use Rattle.rules.specs.SoundLaws.{sound_inv, inv_sound}
+use Rattle.rules.proofs.LevelLaws.{wait_out}
+use Rattle.rules.proofs.SoundLaws.{sound_inv, inv_sound}
 use Rattle.task_lists.specs.TaskList.{places, no_id, task_list_of, id_of}
 use Rattle.task_lists.specs.TaskListLaws.{items_task_list_of, rest_task_list_of}
 use Rattle.walks.specs.Walk.{task_at}

@@ -10,16 +10,16 @@ use Rattle.lists.specs.Table.{filled}
 use Rattle.lists.specs.TableLaws.{length_snoc, snoc_default}
 use Rattle.rules.specs.Tables.{QueueTable, Tables, queue_count, width_of, depth_of, messages_of, taken_by}
 use Rattle.rules.specs.Invariant.{Facts}
-use Rattle.rules.specs.QueueLaws.{width_range}
+use Rattle.rules.proofs.QueueLaws.{width_range}
 use Rattle.rules.specs.Effect.{set_messages, add_queue}
 use Rattle.rings.specs.Words.{laid}
 use Rattle.rings.specs.Ring.{Ring, slot_of, spot, messages, Sits, fuller, fewer, turned}
-use Rattle.rings.specs.RingLaws.{slot_in}
+use Rattle.rings.proofs.RingLaws.{slot_in}
 use Rattle.rings.specs.Starts.{start_of, Placed}
-use Rattle.rings.specs.StartsLaws.{start_same, start_behind, starts_apart}
-use Rattle.rings.specs.PutLaws.{length_put, put_apart, put_appends}
-use Rattle.rings.specs.TakeLaws.{take_first}
-use Rattle.rings.specs.SwapLaws.{swap_messages}
+use Rattle.rings.proofs.StartsLaws.{start_same, start_behind, starts_apart}
+use Rattle.rings.proofs.PutLaws.{length_put, put_apart, put_appends}
+use Rattle.rings.proofs.TakeLaws.{take_first}
+use Rattle.rings.proofs.SwapLaws.{swap_messages}
 use Rattle.record.specs.Layout.{ring_of, Stands}
 
 -- the words that queues take are where the next one starts

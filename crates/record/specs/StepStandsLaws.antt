@@ -16,11 +16,11 @@ use Rattle.rules.specs.Effect.{Effect, caller_waits, lock_by, pass_on, pend_by, 
 use Rattle.rules.specs.Refusal.{Row, no_credit, no_room, refusals, first_row}
 use Rattle.rules.specs.Sound.{is_width, is_depth}
 use Rattle.rules.specs.Invariant.{Inv}
-use Rattle.rules.specs.SoundLaws.{depth_true}
-use Rattle.rules.specs.MessageLaws.{sender_full, sent_wide}
-use Rattle.rules.specs.StepLaws.{passed, called_by_lem, caller_in, caller_idle}
-use Rattle.rules.specs.RefusalLaws.{refused_number, refused_above, caller_by}
-use Rattle.rules.specs.OutcomeLaws.{finish_tables}
+use Rattle.rules.proofs.SoundLaws.{depth_true}
+use Rattle.rules.proofs.MessageLaws.{sender_full, sent_wide}
+use Rattle.rules.proofs.StepLaws.{passed, called_by_lem, caller_in, caller_idle}
+use Rattle.rules.proofs.RefusalLaws.{refused_number, refused_above, caller_by}
+use Rattle.rules.proofs.OutcomeLaws.{finish_tables}
 use Rattle.rings.specs.Ring.{slot_of, spot}
 use Rattle.record.specs.Record.{ring_at, view_tables, pack_queues, pack, oldest_in}
 use Rattle.record.specs.Whole.{Whole}

@@ -14,9 +14,9 @@ use Rattle.rules.specs.Invariant.{Facts}
 use Rattle.rules.specs.Effect.{held_for, add_task, hands}
 use Rattle.record.specs.ColumnLaws.{pad_ext}
 use Rattle.rings.specs.Words.{laid}
-use Rattle.rings.specs.WordsLaws.{length_laid, laid_word}
+use Rattle.rings.proofs.WordsLaws.{length_laid, laid_word}
 use Rattle.rings.specs.Held.{held_by, held}
-use Rattle.rings.specs.HeldLaws.{length_held, held_set}
+use Rattle.rings.proofs.HeldLaws.{length_held, held_set}
 use Rattle.record.specs.Record.{joined, pack_words, view_tables}
 use Rattle.record.specs.Whole.{whole}
 use Rattle.record.specs.SoundRecord.{words_tidyb, tidyb}

@@ -3,11 +3,3 @@ pub mod Words
 pub mod Ring
 pub mod Starts
 pub mod Held
-pub mod WordsLaws
-pub mod FilledLaws
-pub mod RingLaws
-pub mod PutLaws
-pub mod TakeLaws
-pub mod SwapLaws
-pub mod StartsLaws
-pub mod HeldLaws

@@ -7,7 +7,7 @@ use lib.ListN.{length, length-set}
 use lib.Seq.{paste-zero, paste-suc}
 use Rattle.lists.specs.TableLaws.{get_d_pad, length_pad}
 use Rattle.rings.specs.Words.{padded}
-use Rattle.rings.specs.WordsLaws.{paste_all}
+use Rattle.rings.proofs.WordsLaws.{paste_all}
 use Rattle.moves.proofs.lay.Goals as goal
 
 pub loop-i-init : goal.loop-i-init

@@ -11,8 +11,8 @@ use Rattle.record.specs.Setters.{put_tasks, put_mutexes, put_waiting, put_runnin
 use Rattle.record.specs.declared.State.{State}
 use Rattle.record.specs.declared.Mutexes.{Mutexes}
 use Rattle.machine.specs.Machine.{answer_in, settled, dispatched}
-use Rattle.machine.specs.PartLaws.{settled_parts, blocked_parts}
-use Rattle.machine.specs.TimedLaws.{lock_refused, lock_passed}
+use Rattle.machine.proofs.PartLaws.{settled_parts, blocked_parts}
+use Rattle.machine.proofs.TimedLaws.{lock_refused, lock_passed}
 use Rattle.mutex_steps.proofs.Laws.{own_mutex, free_mutex, taken_mutex, waits_refused, waits_round, waits_on_lem}
 use Rattle.mutex_steps.proofs.lock.Goals as goal
 

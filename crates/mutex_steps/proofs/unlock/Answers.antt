@@ -8,7 +8,7 @@ use Rattle.record.specs.Setters.{put_tasks, put_mutexes, put_waiting}
 use Rattle.record.specs.declared.State.{State}
 use Rattle.record.specs.declared.Mutexes.{Mutexes}
 use Rattle.machine.specs.Machine.{owner_set, answer_in, settled, dispatched, woke, entered, called_by, unlock_step}
-use Rattle.machine.specs.PartLaws.{entered_parts, woken_parts}
+use Rattle.machine.proofs.PartLaws.{entered_parts, woken_parts}
 use Rattle.mutex_steps.proofs.Laws.{frees, passes}
 use Rattle.mutex_steps.proofs.unlock.Goals as goal
 

@@ -8,7 +8,7 @@ use Prim.{tt}
 use Prim.Native.Nat.{ℕ}
 use Rattle.record.specs.Reads.{queue_owner_at}
 use Rattle.machine.specs.Machine.{answer_in, may_wait, dispatched, blocked_on, receive_on, may_take}
-use Rattle.machine.specs.TimedLaws.{receive_refused, receive_passed}
+use Rattle.machine.proofs.TimedLaws.{receive_refused, receive_passed}
 use Rattle.queue_steps.proofs.receive.Goals as goal
 
 pub returns-then-no-ne0 : goal.returns-then-no-ne0

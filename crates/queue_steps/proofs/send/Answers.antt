@@ -8,7 +8,7 @@ use mir.Syntax.{w8}
 use Prim.{tt}
 use Prim.Native.Nat.{ℕ}
 use Rattle.machine.specs.Machine.{depth_at, used_at, answer_in}
-use Rattle.machine.specs.TimedLaws.{send_refused}
+use Rattle.machine.proofs.TimedLaws.{send_refused}
 use Rattle.queue_steps.proofs.Laws.{other_width, has_room, own_full, full_waits}
 use Rattle.queue_steps.proofs.send.Goals as goal
 

@@ -6,7 +6,7 @@ use Rattle.record.specs.Setters.{put_tasks, put_queues, put_waiting}
 use Rattle.record.specs.declared.State.{State}
 use native.Mathlib.Omega.{arith}
 use Rattle.machine.specs.Machine.{answer_moving, taken_in}
-use Rattle.machine.specs.PartLaws.{woken_parts}
+use Rattle.machine.proofs.PartLaws.{woken_parts}
 use Rattle.queue_steps.proofs.Laws.{sent_turn, passes_on}
 use Rattle.queue_steps.proofs.take.Goals as goal
 

@@ -8,7 +8,7 @@ use Rattle.record.specs.Setters.{put_tasks, put_waiting, put_running}
 use Rattle.record.specs.declared.State.{State}
 use Rattle.moves.specs.declared.Move.TheVariants.{Hold as HoldWords}
 use Rattle.machine.specs.Machine.{answer_in, answer_moving}
-use Rattle.machine.specs.PartLaws.{blocked_parts}
+use Rattle.machine.proofs.PartLaws.{blocked_parts}
 use Rattle.queue_steps.proofs.Laws.{room_refused, blocked_turn, room_round, room_on}
 use Rattle.queue_steps.proofs.wait_for_room.Goals as goal
 

@@ -1,7 +1,7 @@
 -- `slot`: a place before the end, or one behind the turn.
 use mathlib.Core.Path.{sym}
 use native.Mathlib.Omega.{arith}
-use Rattle.rings.specs.RingLaws.{slot_plain, slot_round}
+use Rattle.rings.proofs.RingLaws.{slot_plain, slot_round}
 use Rattle.rings.proofs.slot.Goals as goal
 
 pub returns-then-on-end : goal.returns-then-on-end

@@ -3,7 +3,7 @@ use borrow.Author.Rules.{rules}
 use mathlib.Core.Path.{◌≡◌, sym, ap, ◌∙◌}
 use native.Mathlib.Omega.{arith}
 use Rattle.rings.specs.Starts.{start_of}
-use Rattle.rings.specs.StartsLaws.{start_zero, start_more, at_most_in}
+use Rattle.rings.proofs.StartsLaws.{start_zero, start_more, at_most_in}
 use Rattle.rings.proofs.start.Goals as goal
 
 pub loop-i-init : goal.loop-i-init

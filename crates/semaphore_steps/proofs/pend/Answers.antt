@@ -6,7 +6,7 @@ use borrow.Author.Tests.{eq-eqb, ne_eqb}
 use mathlib.Core.Path.{◌≡◌, refl, ap, sym, ◌∙◌}
 use Prim.Native.Nat.{ℕ}
 use Rattle.machine.specs.Machine.{answer_in, may_wait, dispatched, blocked_on, pend_on}
-use Rattle.machine.specs.TimedLaws.{pend_refused, pend_passed}
+use Rattle.machine.proofs.TimedLaws.{pend_refused, pend_passed}
 use Rattle.semaphore_steps.proofs.pend.Goals as goal
 
 pub returns-then-no-ne0 : goal.returns-then-no-ne0

@@ -6,7 +6,7 @@ use Rattle.rules.specs.Sizes.{granted, timed_out}
 use Rattle.record.specs.Setters.{put_tasks, put_clock, put_waiting}
 use Rattle.record.specs.declared.State.{State}
 use Rattle.machine.specs.Machine.{settled, dispatched, all_entered, answer_in, tick_step}
-use Rattle.machine.specs.PartLaws.{all_entered_parts, woken_parts}
+use Rattle.machine.proofs.PartLaws.{all_entered_parts, woken_parts}
 use Rattle.time_steps.proofs.Laws.{waits_end}
 use Rattle.time_steps.proofs.tick.Goals as goal
 

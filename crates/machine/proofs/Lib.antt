@@ -1,0 +1,22 @@
+-- Laws of the definitions in specs/.
+pub mod StageLaws
+pub mod ReadyLevelLaws
+pub mod DispatchLaws
+pub mod FlagLaws
+pub mod WaitLaws
+pub mod EffectLaws
+pub mod ObjectLaws
+pub mod QueueObjectLaws
+pub mod PartLaws
+pub mod TimedLaws
+pub mod RowLaws
+pub mod FinishLaws
+pub mod PlainStepLaws
+pub mod WaitStepLaws
+pub mod LockStepLaws
+pub mod SendStepLaws
+pub mod ReceiveStepLaws
+pub mod QueueSetUpLaws
+pub mod PerformLaws
+pub mod TickStepLaws
+pub mod MachineLaws
