@@ -25,11 +25,13 @@ use Rattle.script_lines.specs.LineRunLaws.{message_back, plan_answers, known_on}
 use Rattle.script.specs.Session.{log_at, step_at, logged_at, Stand, free_of, moved_to, Through, through, piece_run}
 use Rattle.script.specs.SessionLaws.{rest_part, rest_back, through_end, Run, run_short, run_again, run_stopped, run_held, cut_on}
 use Rattle.script.proofs.session.arrive.Goals as goal
-use Rattle.script.proofs.session.arrive.Goals.{After-log_line-l}
+use Rattle.script.proofs.session.arrive.Lts as lts
+use Rattle.script.proofs.session.arrive.Tie as tie
+use Rattle.script.proofs.session.arrive.Reads as reads
 
 -- a line that was found, answered and logged
 abbrev Turned : Type 0
-Turned = After-log_line-l
+Turned = lts.After-log_line tie.the-claims reads.Pre reads.Post goal.the-invariant-loop-at goal.the-decreases-loop-at tie.handed_clauses
 
 abbrev bytes_in : Turned → List ℕ
 bytes_in k = k.args.bytes.now
@@ -99,10 +101,10 @@ turn_size k =
 abbrev Made : Type 0
 Made = goal.After-struct_known-in-loop-at-1
 
-moved_is : (c : Made) → (let k = c.before.before.before.before.before.before.before.before.before.before.before.before.before.before in
+moved_is : (c : Made) → (let k = c.before.before.before.before.before.before.before.before.before.before.before.before.before.before.before in
     whole k.answer-p.result.state c.make.new.words c.make.new.block ≡ (planned k).whole)
 moved_is c =
-    let k = c.before.before.before.before.before.before.before.before.before.before.before.before.before.before in
+    let k = c.before.before.before.before.before.before.before.before.before.before.before.before.before.before.before in
     let h = (before_turn k).session.whole in
     let p = k.answer-p.result in
     let m = c.make.ensures in
@@ -148,13 +150,13 @@ pub shape_of-carry-then-l-ne0 : goal.shape_of-carry-then-l-ne0
 shape_of-carry-then-l-ne0 c = c.feed-f.auto.carry ∙ c.loop-at.invariant.2
 
 pub shape_of-log-then-l-ne0 : goal.shape_of-log-then-l-ne0
-shape_of-log-then-l-ne0 c = let k = c.before.before.before.before.before in
+shape_of-log-then-l-ne0 c = let k = c.before.before.before.before.before.before in
     turn_size k ∙ k.loop-at.invariant.1
 
 pub returns-then-l-ne0 : goal.returns-then-l-ne0
 unfolding piece_run
 returns-then-l-ne0 c =
-    let k = c.before.before.before.before.before in
+    let k = c.before.before.before.before.before.before in
     let e = run_stopped (bytes_in k) (before_turn k) _ _ _ _ _ (run_is k) k.loop-at-test.true _ (memory_is k) c.if-l-ne0.true ∙ k.loop-at.invariant.6 in record {
       answer = c.came_to-then-l-ne0.ensures ∙ ap moved_to e;
       held = ap (λ (t : Through). t.stand.session.whole.words) e;
@@ -165,19 +167,19 @@ returns-then-l-ne0 c =
 
 pub overflow_add-written : goal.overflow_add-written
 overflow_add-written c =
-    let k = c.before.before.before.before.before.before.before.before.before.before.before.before.before.before in
+    let k = c.before.before.before.before.before.before.before.before.before.before.before.before.before.before.before in
     omega (arith, turn_fits k c.if-l-ne0.false, k.loop-at.invariant.1)
 
 pub loop-at-smaller : goal.loop-at-smaller
 loop-at-smaller c =
-    let k = c.before.before.before.before.before.before.before.before.before.before.before.before.before.before in
+    let k = c.before.before.before.before.before.before.before.before.before.before.before.before.before.before.before in
     let f = k.feed-f in
     let more = k.loop-at-test.true in
     omega (arith, cut_on (bytes_in k) (before_turn k) f.result f.ensures.answer more, more)
 
 pub loop-at-preserved : goal.loop-at-preserved
 loop-at-preserved c =
-    let k = c.before.before.before.before.before.before.before.before.before.before.before.before.before.before in
+    let k = c.before.before.before.before.before.before.before.before.before.before.before.before.before.before.before in
     let l = k.loop-at in
     let f = k.feed-f in
     let n = k.log_line-l in

@@ -22,11 +22,13 @@ use Rattle.script.specs.Session.{Script, script_of, log_at, line_taken, taken_me
 use Rattle.script.specs.LineLaws.{logged_memory, logged_taken, logged_stopped}
 use Rattle.script.specs.SessionLaws.{left_taken, left_memory, end_taken, end_stopped, end_over}
 use Rattle.script.proofs.session.end.Goals as goal
-use Rattle.script.proofs.session.end.Goals.{After-log_line-l}
+use Rattle.script.proofs.session.end.Lts as lts
+use Rattle.script.proofs.session.end.Tie as tie
+use Rattle.script.proofs.session.end.Reads as reads
 
 -- the last line, answered and logged
 abbrev LoggedLast : Type 0
-LoggedLast = After-log_line-l
+LoggedLast = lts.After-log_line tie.the-claims reads.Pre reads.Post tie.handed_clauses
 
 abbrev handed : LoggedLast → Script
 handed k = let a = k.args in script_of a.session a.words.now a.block.now
@@ -96,7 +98,7 @@ returns-then-not-is_left c =
 
 pub returns-then-l-ne0 : goal.returns-then-l-ne0
 returns-then-l-ne0 c =
-    let k = c.before.before.before.before.before in
+    let k = c.before.before.before.before.before.before in
     let l = k.log_line-l.result in
     let n = logged_stopped (handed k).whole (handed k).stage (last_line k) (memory_in k) (planned k) (answer_is k) l (logged_is k) c.if-l-ne0.true in
     let stopped = (λ i. record { session = handed k; next = 0; written = 0; number = sym n i }) ∙ end_stopped (handed k) (carry_in k) (memory_in k) _ (taken_is k) (λ z. c.if-l-ne0.true (sym n ∙ z)) in
@@ -104,7 +106,7 @@ returns-then-l-ne0 c =
 
 pub returns : goal.returns
 returns c =
-    let k = c.before.before.before.before.before.before.before.before.before.before.before.before.before.before in
+    let k = c.before.before.before.before.before.before.before.before.before.before.before.before.before.before.before in
     let l = k.log_line-l.result in
     let p = k.answer-p.result in
     let h = (handed k).whole in
