@@ -4,6 +4,7 @@
 ghost use Rattle.std.specs.Prelude.{◌≡◌, List, ℕ, length};
 ghost use Rattle.record.specs.Whole.{whole};
 ghost use Rattle.machine.specs.Planned.{carried};
+ghost use Rattle.kernel.specs.Planning.{Known};
 ghost use Rattle.calls.specs.Call.{request_of, call_of};
 
 use kernel::refused;
@@ -60,12 +61,26 @@ pub fn request_of(code: u32, a: u32, b: u32, c: u32) -> Asked
 }
 
 // What is asked for, on a record that is tested first: 14 for a code that names no step or a send without one to eight words, 15, or its step, before any
-// word is moved. The message beside it has `count` words, the lent block `space`. It is `kernel::plan` with its test, but not by calling that: each
-// function that the record goes through by value is a copy of it.
+// word is moved. The message beside it has `count` words, the lent block `space`.
 pub fn call(s: State, x: Asked, count: usize, space: usize, words: &[u32]) -> Plan
     ensures { (m block : List ℕ) → length m ≡ count → length block ≡ space → carried (whole s words.now block) m result ≡ call_of (whole s words.now block) x m }
 {
     let sound = sound::is_sound(s, words, space);
+    tested_call(s, sound, x, count, space, words)
+}
+
+// The same on a record that was tested before: `sound` is what the test said. It is `kernel::plan` for what is asked by code, but not by calling that: each
+// function that the record goes through by value is a copy of it.
+pub fn tested_call(
+    s: State,
+    sound: bool,
+    x: Asked,
+    count: usize,
+    space: usize,
+    words: &[u32],
+) -> Plan
+    ensures { (m block : List ℕ) → length m ≡ count → length block ≡ space → Known sound (whole s words.now block) → carried (whole s words.now block) m result ≡ call_of (whole s words.now block) x m }
+{
     let Asked::Step { request } = x else {
         let no_step = refused::malformed(s, sound);
         return kernel::stay(s, no_step);

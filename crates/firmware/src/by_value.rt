@@ -2,6 +2,7 @@
 ghost use Rattle.std.specs.Prelude.{◌≡◌, List, ℕ, length};
 ghost use Rattle.record.specs.Whole.{whole};
 ghost use Rattle.record.specs.SoundRecord.{sound_of};
+ghost use Rattle.record.specs.GoodRecord.{Typed};
 ghost use Rattle.moves.specs.Moves.{words_after, block_after};
 ghost use Rattle.calls.specs.Call.{CallGives};
 ghost use Rattle.calls.specs.Packed.{Carries};
@@ -16,6 +17,16 @@ pub fn tested(x: Held, space: usize) -> bool
     let s = x.state;
     let words = x.words;
     sound::is_sound(s, &words, space)
+}
+
+// The same where the record lies, for a step of it: the copy that the test is handed is gone when the step begins.
+#[inline(never)]
+pub fn tested_in_place(x: &Held, space: usize) -> bool
+    ensures answer { (block : List ℕ) → length block ≡ space → result ≡ sound_of (whole x.now.state x.now.words block) }
+    ensures types { Typed x.now.state }
+{
+    let s = x.state;
+    sound::is_sound(s, &x.words, space)
 }
 
 // The step of a code on a record with its words, before any word is moved: the message has `count` words, the lent block `space`.

@@ -42,8 +42,10 @@ pub extern "C" fn cungkalisa_step(
 ) -> u64
     ensures { Carries result (call_out x.old.state code a b c x.old.words message.now block.old).answer × (x.new.state ≡ (call_out x.old.state code a b c x.old.words message.now block.old).state) × (x.new.words ≡ call_words x.old.state code a b c x.old.words message.now block.old) × (block.new ≡ call_block x.old.state code a b c x.old.words message.now block.old) }
 {
+    let asked = calls::request_of(code, a, b, c);
+    let sound = by_value::tested_in_place(x, block.len());
     let t = x.state;
-    let o = by_value::made(t, code, a, b, c, &mut x.words, message.len(), block.len());
+    let o = calls::tested_call(t, sound, asked, message.len(), block.len(), &x.words);
     let n = by_value::state_of(o);
     x.state = n;
     by_value::given(o, &mut x.words, message, block)

@@ -8,6 +8,7 @@ use record::{GRANTED, NONE, ON_MUTEX, Plan, State, reads};
 use replies::{answers, refusals};
 
 // A free mutex is taken; else the caller waits, unless it may not.
+#[inline(never)]
 pub fn lock(mut s: State, m: u32, time: u32) -> Plan
     ensures { result ≡ lock_step s m time }
 {
@@ -52,6 +53,7 @@ pub fn lock(mut s: State, m: u32, time: u32) -> Plan
 }
 
 // Ownership passes to the best waiter; where nobody waits, the mutex becomes free.
+#[inline(never)]
 pub fn unlock(mut s: State, m: u32) -> Plan
     ensures { result ≡ unlock_step s m }
 {

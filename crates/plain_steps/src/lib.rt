@@ -7,6 +7,7 @@ ghost use Rattle.machine.specs.Machine.{yield_step, hold_step, free_step, level_
 use record::{EIGHT, MAX_HOLD, NONE, Plan, State};
 use replies::{answers, refusals};
 
+#[inline(never)]
 pub fn yield_now(mut s: State) -> Plan
     ensures { result ≡ yield_step s }
 {
@@ -28,6 +29,7 @@ pub fn yield_now(mut s: State) -> Plan
     answers::answer(s, 0, 0)
 }
 
+#[inline(never)]
 pub fn hold(mut s: State) -> Plan
     ensures { result ≡ hold_step s }
 {
@@ -42,6 +44,7 @@ pub fn hold(mut s: State) -> Plan
     answers::answer(s, 0, 0)
 }
 
+#[inline(never)]
 pub fn free(mut s: State) -> Plan
     ensures { result ≡ free_step s }
 {
@@ -63,6 +66,7 @@ pub fn free(mut s: State) -> Plan
     answers::answer(s, 0, 0)
 }
 
+#[inline(never)]
 pub fn level(s: State, i: u32) -> Plan
     ensures { result ≡ level_step s i }
 {
@@ -75,6 +79,7 @@ pub fn level(s: State, i: u32) -> Plan
     answers::answer(s, 0, v as u32)
 }
 
+#[inline(never)]
 pub fn outcome(s: State, task: u32) -> Plan
     ensures { result ≡ outcome_step s task }
 {
@@ -88,6 +93,7 @@ pub fn outcome(s: State, task: u32) -> Plan
 }
 
 // A word that a task holds; `words` has eight for each task.
+#[inline(never)]
 pub fn word(s: State, task: u32, n: u32, words: &[u32]) -> Plan
     ensures { result ≡ word_step s task n words.now }
 {

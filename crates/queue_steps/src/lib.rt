@@ -88,6 +88,7 @@ fn deliver(mut s: State, q: u8) -> Plan
 }
 
 // A message of `count` words: the owner of a full queue is refused, as only it could make room.
+#[inline(never)]
 pub fn send(s: State, queue: u32, time: u32, count: usize) -> Plan
     ensures { result ≡ send_step s queue time count }
 {
@@ -182,6 +183,7 @@ fn may_take(owner: u8, caller: u8) -> bool
 }
 
 // The oldest message is taken; where there is none, the caller waits for one, unless it may not.
+#[inline(never)]
 pub fn receive(mut s: State, queue: u32, time: u32) -> Plan
     ensures { result ≡ receive_step s queue time }
 {

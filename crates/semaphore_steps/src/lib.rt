@@ -7,6 +7,7 @@ ghost use Rattle.machine.specs.Machine.{pend_step, post_step, flush_step};
 use record::{FLUSHED, GRANTED, NONE, ON_SEMAPHORE, Plan, State, reads};
 use replies::{answers, refusals};
 
+#[inline(never)]
 pub fn pend(mut s: State, k: u32, time: u32) -> Plan
     ensures { result ≡ pend_step s k time }
 {
@@ -37,6 +38,7 @@ pub fn pend(mut s: State, k: u32, time: u32) -> Plan
 }
 
 // The best waiter gets the credit; where nobody waits, the count rises up to the maximum.
+#[inline(never)]
 pub fn post(mut s: State, k: u32) -> Plan
     ensures { result ≡ post_step s k }
 {
@@ -70,6 +72,7 @@ pub fn post(mut s: State, k: u32) -> Plan
     answers::answer(s, 0, 0)
 }
 
+#[inline(never)]
 pub fn flush(mut s: State, k: u32) -> Plan
     ensures { result ≡ flush_step s k }
 {

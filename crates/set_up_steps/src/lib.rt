@@ -9,6 +9,7 @@ ghost use Rattle.machine.specs.Machine.{task_step, mutex_step, sem_step, queue_s
 use record::{KINDS, LEVELS, MAX_MUTEXES, MAX_SEMAPHORES, MAX_TASKS, NONE, Plan, State};
 use replies::answers;
 
+#[inline(never)]
 pub fn task(mut s: State, priority: u32) -> Plan
     ensures { result ≡ task_step s priority }
 {
@@ -30,6 +31,7 @@ pub fn task(mut s: State, priority: u32) -> Plan
     answers::answer(s, 0, id as u32)
 }
 
+#[inline(never)]
 pub fn mutex(mut s: State, kind: u32) -> Plan
     ensures { result ≡ mutex_step s kind }
 {
@@ -47,6 +49,7 @@ pub fn mutex(mut s: State, kind: u32) -> Plan
     answers::answer(s, 0, id as u32)
 }
 
+#[inline(never)]
 pub fn sem(mut s: State, count: u32, maximum: u32) -> Plan
     ensures { result ≡ sem_step s count maximum }
 {
@@ -68,6 +71,7 @@ pub fn sem(mut s: State, count: u32, maximum: u32) -> Plan
 }
 
 // A queue that anybody may receive from; `space` is the length of the lent block, in words.
+#[inline(never)]
 pub fn queue(mut s: State, width: u32, depth: u32, space: usize) -> Plan
     ensures { result ≡ queue_step s width depth space }
 {
@@ -85,6 +89,7 @@ pub fn queue(mut s: State, width: u32, depth: u32, space: usize) -> Plan
 }
 
 // A queue that only its owner receives from.
+#[inline(never)]
 pub fn owned_queue(mut s: State, width: u32, depth: u32, owner: u32, space: usize) -> Plan
     ensures { result ≡ owned_queue_step s width depth owner space }
 {
@@ -105,6 +110,7 @@ pub fn owned_queue(mut s: State, width: u32, depth: u32, owner: u32, space: usiz
     answers::answer(s, 0, id as u32)
 }
 
+#[inline(never)]
 pub fn start(mut s: State) -> Plan
     ensures { result ≡ start_step s }
 {

@@ -7,6 +7,7 @@ ghost use Rattle.machine.specs.Machine.{tick_step, sleep_step};
 use record::{GRANTED, MAX_TICKS, NONE, ON_TIME, Plan, State, TIMED_OUT};
 use replies::{answers, refusals};
 
+#[inline(never)]
 pub fn sleep(mut s: State, time: u32) -> Plan
     ensures { result ≡ sleep_step s time }
 {
@@ -35,6 +36,7 @@ pub fn sleep(mut s: State, time: u32) -> Plan
     answers::answer(s, 1, 0)
 }
 
+#[inline(never)]
 pub fn tick(mut s: State) -> Plan
     ensures { result ≡ tick_step s }
 {
