@@ -1,4 +1,5 @@
-// What the functions for C do once the record is taken out: the record by value, its words and the block in lent memory.
+// What the functions for C do: the record's test, where it lies too, and what is done once it is taken out, the record by value, its words and the block in
+// lent memory.
 ghost use Rattle.std.specs.Prelude.{◌≡◌, List, ℕ, length};
 ghost use Rattle.record.specs.Whole.{whole};
 ghost use Rattle.record.specs.SoundRecord.{sound_of};
