@@ -3,11 +3,13 @@ pub mod Whole
 pub mod Record
 pub mod Layout
 pub mod SoundRecord
+pub mod Refused
 pub mod StepRecord
 pub mod DemandRecord
 pub mod Setters
 pub mod Reads
 pub mod GoodRecord
+pub mod RefusedLaws
 pub mod ColumnLaws
 pub mod TidyLaws
 pub mod ViewLaws

@@ -4,8 +4,10 @@
 pub mod answers;
 mod first;
 pub mod reads;
+pub mod refusal;
 
 pub use first::{fresh, fresh_held};
+pub use refusal::Refusal;
 
 // How many places each table has. A list has a place for each task.
 pub const TASKS: usize = task_lists::PLACES;

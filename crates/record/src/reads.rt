@@ -3,42 +3,30 @@ ghost use Rattle.std.specs.Prelude.{◌≡◌};
 ghost use Rattle.record.specs.Record.{ticks_left};
 ghost use Rattle.record.specs.Reads.{owner_at, count_at, maximum_at};
 
-use crate::{MUTEXES, Mutexes, NONE, SEMAPHORES, Semaphores};
+use crate::{Mutexes, NONE, Semaphores};
 
 // "wrapping subtract gives ticks left for each timed wait"
 pub fn ticks_left(due: u32, clock: u32) -> u32
     ensures { result ≡ ticks_left due clock }
 {
-    std::num::wrapping_sub_u32(due, clock)
+    due.wrapping_sub(clock)
 }
 
 // A mutex's owner; NONE for a number that no mutex has.
 pub fn owner_at(m: Mutexes, j: u8) -> u8
     ensures { result ≡ owner_at m j }
 {
-    let i = j as usize;
-    if MUTEXES <= i {
-        return NONE;
-    }
-    m.owner[i]
+    m.owner.get(j as usize).copied().unwrap_or(NONE)
 }
 
 pub fn count_at(c: Semaphores, j: u8) -> u32
     ensures { result ≡ count_at c j }
 {
-    let i = j as usize;
-    if SEMAPHORES <= i {
-        return 0;
-    }
-    c.count[i]
+    c.count.get(j as usize).copied().unwrap_or(0)
 }
 
 pub fn maximum_at(c: Semaphores, j: u8) -> u32
     ensures { result ≡ maximum_at c j }
 {
-    let i = j as usize;
-    if SEMAPHORES <= i {
-        return 0;
-    }
-    c.maximum[i]
+    c.maximum.get(j as usize).copied().unwrap_or(0)
 }
