@@ -6,7 +6,7 @@ mod room;
 ghost use Rattle.std.specs.Prelude.{◌≡◌};
 ghost use Rattle.machine.specs.Machine.{task_step, mutex_step, sem_step, queue_step, owned_queue_step, start_step};
 
-use record::{KINDS, LEVELS, MAX_MUTEXES, MAX_SEMAPHORES, MAX_TASKS, NONE, Plan, State};
+use record::{KINDS, LEVELS, MAX_MUTEXES, MAX_SEMAPHORES, MAX_TASKS, NONE, Plan, Refusal, State};
 use replies::answers;
 
 #[inline(never)]
@@ -14,21 +14,18 @@ pub fn task(mut s: State, priority: u32) -> Plan
     ensures { result ≡ task_step s priority }
 {
     if s.started != 0 {
-        return answers::answer(s, 4, 0);
+        return answers::refused(s, Refusal::WrongPhase);
     }
     if LEVELS as u32 <= priority {
-        return answers::answer(s, 7, 0);
+        return answers::refused(s, Refusal::OutOfRange);
     }
     let id = s.tasks.n;
     if MAX_TASKS <= id {
-        return answers::answer(s, 8, 0);
+        return answers::refused(s, Refusal::NoRoom);
     }
-    let p = priority as u8;
-    let tasks = objects::add_task(s.tasks, p);
-    let levels = tasks.level;
-    s.ready = task_lists::insert_tail(s.ready, levels, id);
-    s.tasks = tasks;
-    answers::answer(s, 0, id as u32)
+    s.tasks = objects::add_task(s.tasks, priority as u8);
+    effects::enter(&mut s, id);
+    answers::done(s, id as u32)
 }
 
 #[inline(never)]
@@ -36,17 +33,17 @@ pub fn mutex(mut s: State, kind: u32) -> Plan
     ensures { result ≡ mutex_step s kind }
 {
     if s.started != 0 {
-        return answers::answer(s, 4, 0);
+        return answers::refused(s, Refusal::WrongPhase);
     }
     if KINDS as u32 <= kind {
-        return answers::answer(s, 7, 0);
+        return answers::refused(s, Refusal::OutOfRange);
     }
     let id = s.mutexes.n;
     if MAX_MUTEXES <= id {
-        return answers::answer(s, 8, 0);
+        return answers::refused(s, Refusal::NoRoom);
     }
     s.mutexes = objects::add_mutex(s.mutexes, kind as u8);
-    answers::answer(s, 0, id as u32)
+    answers::done(s, id as u32)
 }
 
 #[inline(never)]
@@ -54,20 +51,17 @@ pub fn sem(mut s: State, count: u32, maximum: u32) -> Plan
     ensures { result ≡ sem_step s count maximum }
 {
     if s.started != 0 {
-        return answers::answer(s, 4, 0);
+        return answers::refused(s, Refusal::WrongPhase);
     }
-    if maximum == 0 {
-        return answers::answer(s, 7, 0);
-    }
-    if maximum < count {
-        return answers::answer(s, 7, 0);
+    if maximum == 0 || maximum < count {
+        return answers::refused(s, Refusal::OutOfRange);
     }
     let id = s.semaphores.n;
     if MAX_SEMAPHORES <= id {
-        return answers::answer(s, 8, 0);
+        return answers::refused(s, Refusal::NoRoom);
     }
     s.semaphores = objects::add_semaphore(s.semaphores, count, maximum);
-    answers::answer(s, 0, id as u32)
+    answers::done(s, id as u32)
 }
 
 // A queue that anybody may receive from; `space` is the length of the lent block, in words.
@@ -76,16 +70,14 @@ pub fn queue(mut s: State, width: u32, depth: u32, space: usize) -> Plan
     ensures { result ≡ queue_step s width depth space }
 {
     if s.started != 0 {
-        return answers::answer(s, 4, 0);
+        return answers::refused(s, Refusal::WrongPhase);
     }
-    let queues = s.queues;
-    let no = room::refusal(queues, width, depth, space);
-    if no != 0 {
-        return answers::answer(s, no, 0);
+    if let Err(no) = room::refusal(s.queues, width, depth, space) {
+        return answers::refused(s, no);
     }
-    let id = queues.n;
-    s.queues = objects::add_queue(queues, width as u8, depth as u8, NONE);
-    answers::answer(s, 0, id as u32)
+    let id = s.queues.n;
+    s.queues = objects::add_queue(s.queues, width as u8, depth as u8, NONE);
+    answers::done(s, id as u32)
 }
 
 // A queue that only its owner receives from.
@@ -94,20 +86,18 @@ pub fn owned_queue(mut s: State, width: u32, depth: u32, owner: u32, space: usiz
     ensures { result ≡ owned_queue_step s width depth owner space }
 {
     if s.started != 0 {
-        return answers::answer(s, 4, 0);
+        return answers::refused(s, Refusal::WrongPhase);
     }
     if s.tasks.n as u32 <= owner {
-        return answers::answer(s, 6, 0);
+        return answers::refused(s, Refusal::NoSuchObject);
     }
     let receiver = owner as u8;
-    let queues = s.queues;
-    let no = room::refusal(queues, width, depth, space);
-    if no != 0 {
-        return answers::answer(s, no, 0);
+    if let Err(no) = room::refusal(s.queues, width, depth, space) {
+        return answers::refused(s, no);
     }
-    let id = queues.n;
-    s.queues = objects::add_queue(queues, width as u8, depth as u8, receiver);
-    answers::answer(s, 0, id as u32)
+    let id = s.queues.n;
+    s.queues = objects::add_queue(s.queues, width as u8, depth as u8, receiver);
+    answers::done(s, id as u32)
 }
 
 #[inline(never)]
@@ -115,15 +105,9 @@ pub fn start(mut s: State) -> Plan
     ensures { result ≡ start_step s }
 {
     if s.started != 0 {
-        return answers::answer(s, 4, 0);
+        return answers::refused(s, Refusal::WrongPhase);
     }
     s.started = 1;
-    let t = s.tasks;
-    let levels = t.level;
-    let ready = s.ready;
-    let turn = settle::dispatch(s.started, ready, levels, s.running, s.hold);
-    let queue = turn.ready;
-    s.ready = queue;
-    s.running = turn.running;
-    answers::answer(s, 0, 0)
+    effects::dispatch(&mut s);
+    answers::done(s, 0)
 }

@@ -4,36 +4,25 @@
 ghost use Rattle.std.specs.Prelude.{◌≡◌};
 ghost use Rattle.machine.specs.Machine.{tick_step, sleep_step};
 
-use record::{GRANTED, MAX_TICKS, NONE, ON_TIME, Plan, State, TIMED_OUT};
+use record::{GRANTED, MAX_TICKS, ON_TIME, Plan, Refusal, State, TIMED_OUT};
 use replies::{answers, refusals};
 
 #[inline(never)]
 pub fn sleep(mut s: State, time: u32) -> Plan
     ensures { result ≡ sleep_step s time }
 {
-    let not_now = refusals::of_caller(s.started, s.running);
-    if not_now != 0 {
-        return answers::answer(s, not_now, 0);
+    if let Err(no) = refusals::of_caller(s.started, s.running) {
+        return answers::refused(s, no);
     }
-    if time == 0 {
-        return answers::answer(s, 7, 0);
-    }
-    if MAX_TICKS < time {
-        return answers::answer(s, 7, 0);
+    if time == 0 || MAX_TICKS < time {
+        return answers::refused(s, Refusal::OutOfRange);
     }
     if s.hold != 0 {
-        return answers::answer(s, 11, 0);
+        return answers::refused(s, Refusal::Held);
     }
-    let tasks = waits::begin_wait(s.tasks, s.running, ON_TIME, 0, s.clock, time);
-    s.tasks = tasks;
-    s.waiting = task_lists::push(s.waiting, s.running);
-    let levels = tasks.level;
-    let ready = s.ready;
-    let turn = settle::dispatch(s.started, ready, levels, NONE, s.hold);
-    let queue = turn.ready;
-    s.ready = queue;
-    s.running = turn.running;
-    answers::answer(s, 1, 0)
+    effects::block(&mut s, ON_TIME, 0, time);
+    effects::dispatch(&mut s);
+    answers::waits(s, 0)
 }
 
 #[inline(never)]
@@ -41,30 +30,17 @@ pub fn tick(mut s: State) -> Plan
     ensures { result ≡ tick_step s }
 {
     if s.started == 0 {
-        return answers::answer(s, 4, 0);
+        return answers::refused(s, Refusal::WrongPhase);
     }
-    let clock = waits::due_at(s.clock, 1);
     let flags = waits::due_flags(s.tasks, s.clock);
-    s.clock = clock;
+    s.clock = waits::due_at(s.clock, 1);
     if !waits::any_flag(flags) {
-        return answers::answer(s, 0, 0);
+        return answers::done(s, 0);
     }
-    let t = s.tasks;
-    let mut tasks = waits::end_where(t, flags, GRANTED, TIMED_OUT);
     let waited = s.waiting;
-    s.waiting = task_lists::keep_flagged(waited, flags, 0);
-    let mutexes = s.mutexes;
-    let queues = s.queues;
-    let receivers = queues.owner;
-    let others = s.ready;
-    let order = settle::settle(tasks, mutexes, receivers, others);
-    let levels = order.level;
-    tasks.level = levels;
-    s.tasks = tasks;
-    let ready = task_lists::insert_flagged(order.ready, levels, flags, waited);
-    let turn = settle::dispatch(s.started, ready, levels, s.running, s.hold);
-    let queue = turn.ready;
-    s.ready = queue;
-    s.running = turn.running;
-    answers::answer(s, 0, 0)
+    effects::wake(&mut s, flags, GRANTED, TIMED_OUT);
+    effects::settle(&mut s);
+    effects::enter_flagged(&mut s, waited, flags);
+    effects::dispatch(&mut s);
+    answers::done(s, 0)
 }
