@@ -1,5 +1,5 @@
 // The steps on mutexes: the refusals in the order of the table, then what the step does.
-#![tactic(auto)]
+#![tactic(auto, using(record::specs::RefusedLaws::refusal_some), unfolding(record::specs::Refused::refusal_code, record::specs::Refused::refusal_number, machine::specs::Machine::called_by, machine::specs::Machine::may_wait, machine::specs::Machine::timed_refusal, machine::specs::Machine::lock_step, machine::specs::Machine::lock_waits, machine::specs::Machine::unlock_step, machine::specs::Machine::passed_to, machine::specs::Machine::woke))]
 
 ghost use Rattle.std.specs.Prelude.{◌≡◌};
 ghost use Rattle.machine.specs.Machine.{lock_step, unlock_step};

@@ -1,5 +1,5 @@
 // The steps on semaphores: the refusals in the order of the table, then what the step does.
-#![tactic(auto)]
+#![tactic(auto, using(record::specs::RefusedLaws::refusal_some), unfolding(record::specs::Refused::refusal_code, record::specs::Refused::refusal_number, machine::specs::Machine::called_by, machine::specs::Machine::may_wait, machine::specs::Machine::timed_refusal, machine::specs::Machine::pend_step, machine::specs::Machine::post_step, machine::specs::Machine::credit_step, machine::specs::Machine::flush_step))]
 
 ghost use Rattle.std.specs.Prelude.{◌≡◌};
 ghost use Rattle.machine.specs.Machine.{pend_step, post_step, flush_step};

@@ -1,5 +1,5 @@
 // The steps of set-up, creation and start: the refusals in the order of the table, then what the step does.
-#![tactic(auto)]
+#![tactic(auto, using(record::specs::RefusedLaws::refusal_some), unfolding(record::specs::Refused::refusal_code, record::specs::Refused::refusal_number, machine::specs::Machine::task_step, machine::specs::Machine::mutex_step, machine::specs::Machine::sem_step, machine::specs::Machine::queue_step, machine::specs::Machine::owned_queue_step, machine::specs::Machine::queue_made, machine::specs::Machine::start_step))]
 
 mod room;
 

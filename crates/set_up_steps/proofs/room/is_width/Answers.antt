@@ -1,23 +1,21 @@
 -- `room::is_width` meets its contract.
-use native.Mathlib.Omega.{arith}
-use mathlib.Core.Path.{refl}
-use borrow.Author.Tests.{eq-eqb, ne_eqb, eqb-true}
+use borrow.Author.Rules.{rules}
 use Rattle.lists.specs.Test.{◌or◌}
 use Rattle.rules.specs.Sound.{is_width}
 use Rattle.set_up_steps.proofs.room.is_width.Goals as goal
 
-pub returns-then-width-eq1 : goal.returns-then-width-eq1
+pub returns-in_default-clause-answer : goal.returns-in_default-clause-answer
 unfolding is_width ◌or◌
-returns-then-width-eq1 c = record { answer = rw (eq-eqb _ _ c.if-width-eq1.true) refl; small = λ e. omega (arith, c.if-width-eq1.true) }
+returns-in_default-clause-answer c = search rules
 
-pub returns-then-width-eq2 : goal.returns-then-width-eq2
+pub returns-in_default-2-clause-answer : goal.returns-in_default-2-clause-answer
 unfolding is_width ◌or◌
-returns-then-width-eq2 c = record { answer = rw (ne_eqb _ _ c.if-width-eq1.false, eq-eqb _ _ c.if-width-eq2.true) refl; small = λ e. omega (arith, c.if-width-eq2.true) }
+returns-in_default-2-clause-answer c = search rules
 
-pub returns-then-width-eq4 : goal.returns-then-width-eq4
+pub returns-in-1-clause-answer : goal.returns-in-1-clause-answer
 unfolding is_width ◌or◌
-returns-then-width-eq4 c = record { answer = rw (ne_eqb _ _ c.if-width-eq1.false, ne_eqb _ _ c.if-width-eq2.false, eq-eqb _ _ c.if-width-eq4.true) refl; small = λ e. omega (arith, c.if-width-eq4.true) }
+returns-in-1-clause-answer c = search rules
 
-pub returns : goal.returns
+pub returns-in-1-2-clause-answer : goal.returns-in-1-2-clause-answer
 unfolding is_width ◌or◌
-returns c = record { answer = rw (ne_eqb _ _ c.if-width-eq1.false, ne_eqb _ _ c.if-width-eq2.false, ne_eqb _ _ c.if-width-eq4.false) refl; small = λ e. omega (arith, eqb-true c.args.width 8 e) }
+returns-in-1-2-clause-answer c = search rules
