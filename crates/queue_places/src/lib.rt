@@ -6,61 +6,41 @@ ghost use Rattle.rings.specs.Starts.{queue_places, area_most, start_in};
 ghost use Rattle.record.specs.Reads.{queue_owner_at};
 ghost use Rattle.machine.specs.Machine.{width_at, depth_at, oldest_at, used_at, place_at, next_oldest};
 
-use record::{NONE, QUEUES, Queues};
+use record::{NONE, Queues};
 
 // How many words a message of the queue has.
 pub fn width_at(x: Queues, q: u8) -> u8
     ensures { result ≡ width_at x q }
 {
-    let i = q as usize;
-    if QUEUES <= i {
-        return 0;
-    }
-    x.width[i]
+    x.width.get(q as usize).copied().unwrap_or(0)
 }
 
 // How many messages the queue has room for.
 pub fn depth_at(x: Queues, q: u8) -> u8
     ensures { result ≡ depth_at x q }
 {
-    let i = q as usize;
-    if QUEUES <= i {
-        return 0;
-    }
-    x.depth[i]
+    x.depth.get(q as usize).copied().unwrap_or(0)
 }
 
 // The queue's owner, or NONE.
 pub fn owner_at(x: Queues, q: u8) -> u8
     ensures { result ≡ queue_owner_at x q }
 {
-    let i = q as usize;
-    if QUEUES <= i {
-        return NONE;
-    }
-    x.owner[i]
+    x.owner.get(q as usize).copied().unwrap_or(NONE)
 }
 
 // The ring place of the oldest message.
 pub fn oldest_at(x: Queues, q: u8) -> u8
     ensures { result ≡ oldest_at x q }
 {
-    let i = q as usize;
-    if QUEUES <= i {
-        return 0;
-    }
-    x.oldest[i]
+    x.oldest.get(q as usize).copied().unwrap_or(0)
 }
 
 // How many messages the queue has.
 pub fn used_at(x: Queues, q: u8) -> u8
     ensures { result ≡ used_at x q }
 {
-    let i = q as usize;
-    if QUEUES <= i {
-        return 0;
-    }
-    x.used[i]
+    x.used.get(q as usize).copied().unwrap_or(0)
 }
 
 // The first word of queue q, which is as many words as the queues before it take. The clause `small` tells the caller's proof that a sum with it
@@ -69,9 +49,7 @@ pub fn start_of(x: Queues, q: u8) -> u32
     ensures first { result ≡ start_in x.width x.depth q }
     ensures small { result ≤ area_most * queue_places }
 {
-    let width = x.width;
-    let depth = x.depth;
-    rings::start(&width, &depth, q)
+    rings::start(&x.width, &x.depth, q)
 }
 
 // The first word of the message k behind the oldest one.
