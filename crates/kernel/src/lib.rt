@@ -1,5 +1,5 @@
 // The kernel: the step that takes any record and any request, and the refusals that no step gives.
-#![tactic(auto)]
+#![tactic(auto, unfolding(record::specs::StepRecord::answer_for, record::specs::Refused::refusal_number, task_lists::specs::TaskList::id_of, crate::specs::Planning::formed_by, crate::specs::Planning::planned))]
 
 pub mod refused;
 
@@ -15,13 +15,10 @@ use record::{Answer, EIGHT, Out, Plan, Request, State};
 pub fn is_formed(x: Request, count: usize) -> bool
     ensures { result ≡ formed_by x count }
 {
-    let Request::Send { queue: _, time: _ } = x else {
-        return true;
-    };
-    if count == 0 {
-        return false;
+    match x {
+        Request::Send { .. } => 0 < count && count <= EIGHT,
+        _ => true,
     }
-    count <= EIGHT
 }
 
 // A refusal: the record stays, and nothing is moved.
