@@ -1,5 +1,5 @@
 -- Reading a decimal number: "decimal, no sign, no needless leading zero, at most 4294967295".
-use Rattle.std.specs.Prelude.{ℕ, ◌+◌, ◌-◌, ◌*◌, List, [], ◌∷◌, Option, Some, None, cond, ltb, eqb}
+use Rattle.std.specs.Prelude.{ℕ, ◌+◌, ◌-◌, ◌*◌, List, [], ◌∷◌, Option, Some, None, option_and_then, cond, ltb, eqb}
 use Rattle.decimal.specs.Decimal.{zero_byte}
 
 -- the greatest 32-bit number
@@ -18,15 +18,10 @@ appended n c = n * 10 + (c - zero_byte)
 unfoldable pub with_digit : ℕ → ℕ → Option ℕ
 with_digit n c = cond (ltb c zero_byte) None (cond (ltb nine_byte c) None (cond (ltb most (appended n c)) None (Some (appended n c))))
 
--- goes on with the number, if there is one
-abbrev pub on_value : Option ℕ → (ℕ → Option ℕ) → Option ℕ
-on_value (Some n) f = f n
-on_value None f = None
-
 -- n with all digits of a list after it
 unfoldable pub with_digits : ℕ → List ℕ → Option ℕ
 with_digits n [] = Some n
-with_digits n (c ∷ cs) = on_value (with_digit n c) (λ m. with_digits m cs)
+with_digits n (c ∷ cs) = option_and_then (λ m. with_digits m cs) (with_digit n c)
 
 -- a zero stands alone
 abbrev pub lone_zero : List ℕ → Option ℕ
