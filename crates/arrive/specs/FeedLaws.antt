@@ -1,12 +1,11 @@
 -- Laws of cutting arriving bytes with a carry: each case of the answers, by the tests that lead to it.
 use Rattle.std.proofs.Math.Path.{◌≡◌}
 use Rattle.std.proofs.Common.{◌∙◌, arith}
-use Rattle.std.specs.Prelude.{List, ℕ, ◌+◌, ◌≤◌, ◌<◌}
+use Rattle.std.specs.Prelude.{List, ℕ, ◌+◌, ◌≤◌, ◌<◌, Some, None}
 use Rattle.std.proofs.Math.Logic.{inl, inr}
 use Rattle.std.proofs.Math.ListN.{length}
 use borrow.Author.Tests.{le-leb, lt-leb, lt-ltb, le-ltb, eq-eqb, ne_eqb, leb-true, leb-false}
 use Rattle.text.specs.Place.{room, put_answer, put_bytes}
-use Rattle.text.specs.declared.place.Put.TheVariants.{Next, Full}
 use Rattle.arrive.specs.declared.Found.TheVariants as found
 use Rattle.arrive.specs.Feed.{kept_len, line_found, line_carry, fed, carry_after}
 use Rattle.text.specs.Lines.{line_from, line_end}
@@ -22,17 +21,17 @@ module _ (carry : List ℕ) (held : ℕ) (part : List ℕ) where
   kept_none h = rw (lt-leb _ _ h)
 
   -- what the answer of a writing tells
-  pub kept_next : (n : ℕ) → put_answer carry held part ≡ Next n → kept_len carry held part ≡ n
+  pub kept_next : (n : ℕ) → put_answer carry held part ≡ Some n → kept_len carry held part ≡ n
   unfolding put_answer
   kept_next n e = elim (which (room carry held part)) [
-    | inl r ↦ let k : Next (held + length part) ≡ Next n = rw r at e in kept_room (leb-true _ _ r) ∙ (cc)
-    | inr r ↦ let k : Full ≡ Next n = rw r at e in absurd (let z : ◌≡◌ {A = ℕ} 0 1 = cc in omega arith)
+    | inl r ↦ let k : Some (held + length part) ≡ Some n = rw r at e in kept_room (leb-true _ _ r) ∙ (cc)
+    | inr r ↦ let k : None ≡ Some n = rw r at e in absurd (let z : ◌≡◌ {A = ℕ} 0 1 = cc in omega arith)
   ]
 
-  pub kept_full : put_answer carry held part ≡ Full → kept_len carry held part ≡ length carry + 1
+  pub kept_full : put_answer carry held part ≡ None → kept_len carry held part ≡ length carry + 1
   unfolding put_answer
   kept_full e = elim (which (room carry held part)) [
-    | inl r ↦ let k : Next (held + length part) ≡ Full = rw r at e in absurd (let z : ◌≡◌ {A = ℕ} 0 1 = cc in omega arith)
+    | inl r ↦ let k : Some (held + length part) ≡ None = rw r at e in absurd (let z : ◌≡◌ {A = ℕ} 0 1 = cc in omega arith)
     | inr r ↦ kept_none (leb-false _ _ r)
   ]
 

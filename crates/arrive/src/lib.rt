@@ -6,7 +6,6 @@ ghost use Rattle.std.specs.Prelude.{◌≡◌};
 ghost use Rattle.text.specs.Place.{put_bytes};
 ghost use Rattle.arrive.specs.Feed.{kept_len, line_found, line_carry, fed, carry_after, last_found, found_line};
 
-use text::place::Put;
 use text::{cut, place};
 
 // The longest line of a script, without its LF.
@@ -40,8 +39,8 @@ fn keep(carry: &mut [u8], held: usize, part: &[u8]) -> usize
     ensures memory { carry.new ≡ put_bytes carry.old held part.now }
 {
     match place::put_bytes(carry, held, part) {
-        Put::Next(n) => n,
-        Put::Full => carry.len() + 1,
+        Some(n) => n,
+        None => carry.len() + 1,
     }
 }
 

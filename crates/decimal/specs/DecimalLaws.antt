@@ -1,5 +1,5 @@
 -- Laws of a number's decimal digits.
-use Rattle.std.specs.Prelude.{◌≡◌, refl, List, [], ◌∷◌, ◌++◌, ℕ, zero, suc, ◌+◌, ◌-◌, ◌*◌, ◌/◌, ◌%◌, ◌^◌, ◌≤◌, ◌<◌, ltb, length, get_or, take, drop, set}
+use Rattle.std.specs.Prelude.{◌≡◌, refl, List, [], ◌∷◌, ◌++◌, ℕ, zero, suc, ◌+◌, ◌*◌, ◌/◌, ◌%◌, ◌^◌, ◌≤◌, ◌<◌, max, ltb, length, get_or, take, drop, set}
 use Rattle.std.proofs.Common.{ap, ◌∙◌, inl, inr, add-suc, add-one, arith, length-append, drop_at, lt-ltb, le-ltb, ltb-true, ltb-false}
 use Rattle.std.proofs.Math.Path.{sym}
 use Rattle.std.proofs.Math.Nat.{pow-succ'}
@@ -46,17 +46,30 @@ decimal_length v = (some 9 v, within_most max_digits v)
 pub tenth : (f v : ℕ) → v < 10 ^ suc f → v / 10 < 10 ^ f
 tenth f v h = let k : v < 10 * 10 ^ f = rw (pow-succ' 10 f) at h in omega arith
 
--- one digit off: the fuel suffices for what is left
-pub count_step : (f v : ℕ) → 10 ≤ v → v < 10 ^ f → (1 < f) × (v / 10 < 10 ^ (f - 1)) × (length (digits_within f v) ≡ length (digits_within (f - 1) (v / 10)) + 1)
-count_step zero v h k = absurd (omega arith)
-count_step (suc zero) v h k = absurd (omega arith)
-count_step (suc (suc f)) v h k =
-    let e : suc (suc f) - 1 ≡ suc f = omega arith in
-    (omega arith, rw e (tenth (suc f) v k), rw e (length_large (suc f) v h))
+tens : (k : ℕ) → 0 < 10 ^ k
+tens zero = omega arith
+tens (suc k) = let g = tens k in rw (pow-succ' 10 k) (omega arith)
 
-pub count_end : (f v : ℕ) → 0 < f → v < 10 → length (digits_within f v) ≡ 1
-count_end zero v h k = absurd (omega arith)
-count_end (suc f) v h k = length_small f v k
+-- a number from 10 ^ k on, below 10 ^ (k + 1), has k + 1 digits
+within_count : (f k v : ℕ) → k ≤ f → 10 ^ k ≤ v → v < 10 * 10 ^ k → length (digits_within (suc f) v) ≡ k + 1
+within_count f zero v h p q = length_small f v (omega arith)
+within_count zero (suc k) v h p q = absurd (omega arith)
+within_count (suc f) (suc k) v h p q =
+    let a : 10 * 10 ^ k ≤ v = rw (pow-succ' 10 k) at p in
+    let b : v < 10 * (10 * 10 ^ k) = rw (pow-succ' 10 k) at q in
+    let g = tens k in
+    let r : length (digits_within (suc f) (v / 10)) ≡ k + 1 = within_count f k (v / 10) (omega arith) (omega arith) (omega arith) in
+    omega (arith, r, length_large (suc f) v (omega arith))
+
+-- and zero has one
+pub digits_count : (v k : ℕ) → k < max_digits → 10 ^ k ≤ max v 1 → max v 1 < 10 * 10 ^ k → k + 1 ≡ length (decimal v)
+unfolding decimal
+digits_count zero zero h p q = sym (length_small 9 0 (omega arith))
+digits_count zero (suc k) h p q = absurd (
+    let a : 10 * 10 ^ k ≤ 1 = rw (pow-succ' 10 k) at p in
+    let g = tens k in
+    omega arith)
+digits_count (suc v) k h p q = let e : max (suc v) 1 ≡ suc v = omega arith in sym (within_count 9 k (suc v) (omega arith) (rw e at p) (rw e at q))
 
 -- fuel that is enough needs no more
 pub enough : (f v : ℕ) → v < 10 ^ suc f → digits_within (suc (suc f)) v ≡ digits_within (suc f) v

@@ -6,105 +6,56 @@ ghost use Rattle.text.specs.Place.{put_answer, put_bytes};
 ghost use Rattle.decimal.specs.Decimal.{decimal};
 ghost use Rattle.decimal.specs.Parse.{with_digit, parsed};
 
-use text::place::Put;
-
-// The greatest 32-bit number.
-const MOST: u64 = 4294967295;
-
 const ZERO: u8 = b'0';
 
-const NINE: u8 = b'9';
-
-// A number, or bytes that are none.
-#[derive(Drop)]
-pub enum Number {
-    Value(u32),
-    Bad,
-}
-
-fn wide(x: u8) -> u64
-    ensures { result ≡ x }
-{
-    x as u64
-}
-
 // n with one more digit after it.
-fn with_digit(n: u32, c: u8) -> Number
+#[tactic(auto, unfolding(crate::specs::Parse::with_digit))]
+fn with_digit(n: u32, c: u8) -> Option<u32>
     ensures { result ≡ with_digit n c }
 {
-    if c < ZERO {
-        return Number::Bad;
-    }
-    if NINE < c {
-        return Number::Bad;
-    }
-    let m = (n as u64) * 10 + wide(c - ZERO);
-    if MOST < m {
-        return Number::Bad;
-    }
-    Number::Value(m as u32)
+    let digit = char::from(c).to_digit(10)?;
+    n.checked_mul(10)?.checked_add(digit)
 }
 
 // The number that s is in decimal.
-pub fn parse(s: &[u8]) -> Number
+#[tactic(auto, using(crate::specs::ParseLaws::digits_step, crate::specs::ParseLaws::digits_end), unfolding(crate::specs::Parse::parsed))]
+pub fn parse(s: &[u8]) -> Option<u32>
     ensures { result ≡ parsed s.now }
 {
-    if s.len() == 0 {
-        return Number::Bad;
+    let (first, rest) = s.split_first()?;
+    if *first == ZERO {
+        return rest.is_empty().then_some(0);
     }
-    let first = s[0];
-    if first == ZERO {
-        if s.len() == 1 {
-            return Number::Value(0);
-        }
-        return Number::Bad;
+    let mut n = 0;
+    for c in s {
+        n = with_digit(n, *c)?;
     }
-    let Number::Value(start) = with_digit(0, first) else {
-        return Number::Bad;
-    };
-    let mut n = start;
-    let mut i = 1;
-    while i < s.len() {
-        let Number::Value(more) = with_digit(n, s[i]) else {
-            return Number::Bad;
-        };
-        n = more;
-        i += 1;
-    }
-    Number::Value(n)
+    Some(n)
 }
 
-// How many digits v has.
+// How many digits v has; 0 has one.
+#[tactic(auto, using(crate::specs::DecimalLaws::digits_count))]
 pub fn digits(v: u32) -> usize
     ensures { result ≡ length (decimal v) }
 {
-    let mut n = 1;
-    let mut rest = v;
-    while 10 <= rest {
-        rest = rest / 10;
-        n += 1;
-    }
-    n
+    v.max(1).ilog10() as usize + 1
 }
 
 // v in decimal, from `at` on: the last digit first, since it comes off first.
-pub fn write(out: &mut [u8], at: usize, v: u32) -> Put
+#[tactic(auto, unfolding(text::specs::Place::put_answer, text::specs::Place::put_bytes))]
+pub fn write(out: &mut [u8], at: usize, v: u32) -> Option<usize>
     ensures answer { result ≡ put_answer out.old at (decimal v) }
     ensures memory { out.new ≡ put_bytes out.old at (decimal v) }
 {
     let n = digits(v);
-    if out.len() < at {
-        return Put::Full;
-    }
-    if out.len() - at < n {
-        return Put::Full;
+    let end = at.checked_add(n)?;
+    if out.len() < end {
+        return None;
     }
     let mut rest = v;
-    let mut i = n;
-    while 0 < i {
-        i -= 1;
+    for i in (0..n).rev() {
         out[at + i] = ZERO + (rest % 10) as u8;
-        rest = rest / 10;
+        rest /= 10;
     }
-    Put::Next(at + n)
+    Some(end)
 }

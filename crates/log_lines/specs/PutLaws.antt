@@ -1,25 +1,24 @@
 -- Rows of bytes put one after the other at the front of lent memory.
 use Rattle.std.proofs.Math.Path.{◌≡◌}
-use Rattle.std.specs.Prelude.{refl, List, [], ◌∷◌, ◌++◌, ℕ, ◌+◌, ◌≤◌, length, drop}
+use Rattle.std.specs.Prelude.{refl, List, [], ◌∷◌, ◌++◌, ℕ, ◌+◌, ◌≤◌, Some, None, length, drop}
 use Rattle.std.proofs.Common.{ap, ◌∙◌, append_assoc, append-nil, arith, length-append, length-drop, take_at, drop-drop, le-leb}
 use Rattle.std.proofs.Math.Logic.{inl, inr}
 use Rattle.std.proofs.Math.Seq.{drop-append-add}
 use Rattle.lists.specs.TestLaws.{which}
 use Rattle.text.specs.Place.{room, put_answer, put_bytes}
 use Rattle.text.specs.PlaceLaws.{put_next, put_laid}
-use Rattle.text.specs.declared.place.Put.TheVariants.{Next, Full}  -- keep
 use Rattle.log_lines.specs.LogLine.{place_after}
 
 -- the place by the answer of a writing
 module _ (l : List ℕ) (at : ℕ) (bs : List ℕ) where
-  pub after_next : (n : ℕ) → put_answer l at bs ≡ Next n → n ≡ place_after l at bs
+  pub after_next : (n : ℕ) → put_answer l at bs ≡ Some n → n ≡ place_after l at bs
   unfolding put_answer place_after
   after_next n h = elim (which (room l at bs)) [
     | inl e ↦ rw e (let g = rw e at h in cc)
     | inr e ↦ absurd (let g = rw e at h in let z : ◌≡◌ {A = ℕ} 0 1 = cc in omega arith)
   ]
 
-  pub after_full : put_answer l at bs ≡ Full → at ≡ place_after l at bs
+  pub after_full : put_answer l at bs ≡ None → at ≡ place_after l at bs
   unfolding put_answer place_after
   after_full h = elim (which (room l at bs)) [
     | inl e ↦ absurd (let g = rw e at h in let z : ◌≡◌ {A = ℕ} 0 1 = cc in omega arith)
@@ -71,9 +70,9 @@ puts_front l bs {m} {p} (◌then◌ {cs = cs} {rows = rows} {o = o} {k = k} e r)
 
 -- where the whole has room, rows put at the front one after the other are the whole put at once
 pub puts_answer : (l : List ℕ) (rows : List (List ℕ)) {n : List ℕ} {q : ℕ}
-    → Puts l 0 rows n q → length (whole rows) ≤ length l → (Next q ≡ put_answer l 0 (whole rows)) × (n ≡ put_bytes l 0 (whole rows))
+    → Puts l 0 rows n q → length (whole rows) ≤ length l → (Some q ≡ put_answer l 0 (whole rows)) × (n ≡ put_bytes l 0 (whole rows))
 puts_answer l rows {n} {q} u h =
     let z : 0 + length (whole rows) ≡ length (whole rows) = omega arith in
     let r : 0 + length (whole rows) ≤ length l = omega arith in
     let f : Front l (whole rows) n q = puts_front l [] u (record { place = refl; memory = refl }) h in
-    (rw (put_next l 0 (whole rows) r, z) (ap Next f.place), rw (put_laid l 0 (whole rows) r, z) f.memory)
+    (rw (put_next l 0 (whole rows) r, z) (ap Some f.place), rw (put_laid l 0 (whole rows) r, z) f.memory)

@@ -9,10 +9,9 @@ ghost use Rattle.walks.specs.Walk.{task_at};
 ghost use Rattle.log_lines.specs.LogLine.{line_bytes, log_bytes, bad_bytes, place_after};
 
 use text::place;
-use text::place::Put;
 
 // The first line of a log: `log`, tab, `1`.
-pub fn write_header(log: &mut [u8]) -> Put
+pub fn write_header(log: &mut [u8]) -> Option<usize>
     ensures answer { result ≡ put_answer log.old 0 log_bytes }
     ensures memory { log.new ≡ put_bytes log.old 0 log_bytes }
 {
@@ -20,7 +19,7 @@ pub fn write_header(log: &mut [u8]) -> Put
 }
 
 // The whole log of a script with another first line than its own: `bad`, tab, `1`.
-pub fn write_bad(log: &mut [u8]) -> Put
+pub fn write_bad(log: &mut [u8]) -> Option<usize>
     ensures answer { result ≡ put_answer log.old 0 bad_bytes }
     ensures memory { log.new ≡ put_bytes log.old 0 bad_bytes }
 {
@@ -50,8 +49,8 @@ fn put_number(log: &mut [u8], at: usize, v: u32) -> usize
     ensures memory { log.new ≡ put_bytes log.old at (decimal v) }
 {
     match decimal::write(log, at, v) {
-        Put::Next(n) => n,
-        Put::Full => at,
+        Some(n) => n,
+        None => at,
     }
 }
 
@@ -61,8 +60,8 @@ fn put_text(log: &mut [u8], at: usize, bytes: &[u8]) -> usize
     ensures memory { log.new ≡ put_bytes log.old at bytes.now }
 {
     match place::put_bytes(log, at, bytes) {
-        Put::Next(n) => n,
-        Put::Full => at,
+        Some(n) => n,
+        None => at,
     }
 }
 
@@ -79,12 +78,12 @@ fn put_run(log: &mut [u8], at: usize, run: u8) -> usize
 
 // An answer's line at the front of the lent memory: number, value, task to run or `-`. The room is tested once, before the first
 // byte is written, so that nothing changes where the line has no room.
-pub fn write_line(log: &mut [u8], number: u8, value: u32, run: u8) -> Put
+pub fn write_line(log: &mut [u8], number: u8, value: u32, run: u8) -> Option<usize>
     ensures answer { result ≡ put_answer log.old 0 (line_bytes number value run) }
     ensures memory { log.new ≡ put_bytes log.old 0 (line_bytes number value run) }
 {
     if log.len() < line_length(number, value, run) {
-        return Put::Full;
+        return None;
     }
     let a = put_number(log, 0, number as u32);
     let b = put_text(log, a, b"\t");
@@ -92,5 +91,5 @@ pub fn write_line(log: &mut [u8], number: u8, value: u32, run: u8) -> Put
     let d = put_text(log, c, b"\t");
     let e = put_run(log, d, run);
     let end = put_text(log, e, b"\n");
-    Put::Next(end)
+    Some(end)
 }

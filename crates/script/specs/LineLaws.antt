@@ -2,7 +2,7 @@
 use Rattle.std.proofs.Math.Path.{◌≡◌, refl, ap}
 use Rattle.std.proofs.Common.{◌∙◌}
 use mathlib.Core.List.{List, [], ◌∷◌}
-use Rattle.std.specs.Prelude.{true, false, ℕ, ◌+◌, ◌≤◌, ◌<◌, eqb}
+use Rattle.std.specs.Prelude.{true, false, ℕ, ◌+◌, ◌≤◌, ◌<◌, eqb, Some, None}
 use Rattle.std.proofs.Math.Logic.{inl, inr}
 use native.Mathlib.Omega.{arith}
 use Rattle.std.proofs.Math.ListN.{length}
@@ -16,7 +16,6 @@ use Rattle.record.specs.StepRecord.{After, stays}
 use Rattle.record.specs.Whole.{Whole}
 use Rattle.record.specs.declared.Answer.{Answer}
 use Rattle.text.specs.Place.{room, put_answer, put_bytes}
-use Rattle.text.specs.declared.place.Put.TheVariants.{Next, Full}
 use Rattle.text.specs.Ascii.{ascii}
 use Rattle.words.specs.Form.{same_bytes}
 use Rattle.log_lines.specs.LogLine.{log_bytes, bad_bytes}
@@ -41,21 +40,21 @@ no_number = refl
 -- a log line, by where the script stands
 module _ (stage : ℕ) (a : Answer) (line memory : List ℕ) where
   -- what became of an answer's log line
-  pub answer_logged : eqb stage running ≡ true → (n : ℕ) → put_answer memory 0 (line_for a) ≡ Next n → (record { stage = stage; written = n; number = 0 }) ≡ logged_at stage a line memory
+  pub answer_logged : eqb stage running ≡ true → (n : ℕ) → put_answer memory 0 (line_for a) ≡ Some n → (record { stage = stage; written = n; number = 0 }) ≡ logged_at stage a line memory
   unfolding put_answer logged_at line_stage
   answer_logged e n p = elim (which (room memory 0 (line_for a))) [
     | inl r ↦ (
-        let z : Next (0 + length (line_for a)) ≡ Next n = rw r at p in
+        let z : Some (0 + length (line_for a)) ≡ Some n = rw r at p in
         let y : n ≡ length (line_for a) = (let w : 0 + length (line_for a) ≡ n = cc in omega (arith, w)) in
         rw (e, r) (λ i. record { stage = stage; written = y i; number = 0 })
         )
-    | inr r ↦ let z : Full ≡ Next n = rw r at p in absurd (let y : ◌≡◌ {A = ℕ} 0 1 = cc in omega arith)
+    | inr r ↦ let z : None ≡ Some n = rw r at p in absurd (let y : ◌≡◌ {A = ℕ} 0 1 = cc in omega arith)
   ]
 
-  pub answer_full : eqb stage running ≡ true → put_answer memory 0 (line_for a) ≡ Full → (record { stage = stage; written = 0; number = 8 }) ≡ logged_at stage a line memory
+  pub answer_full : eqb stage running ≡ true → put_answer memory 0 (line_for a) ≡ None → (record { stage = stage; written = 0; number = 8 }) ≡ logged_at stage a line memory
   unfolding put_answer logged_at
   answer_full e p = elim (which (room memory 0 (line_for a))) [
-    | inl r ↦ let z : Next (0 + length (line_for a)) ≡ Full = rw r at p in absurd (let y : ◌≡◌ {A = ℕ} 0 1 = cc in omega arith)
+    | inl r ↦ let z : Some (0 + length (line_for a)) ≡ None = rw r at p in absurd (let y : ◌≡◌ {A = ℕ} 0 1 = cc in omega arith)
     | inr r ↦ rw (e, r)
   ]
 

@@ -9,7 +9,6 @@ use record::{Answer, State};
 use script_lines::run;
 use script_lines::run::{AWAITING, RUNNING};
 use syntax::Line;
-use text::place::Put;
 use words::Reading;
 
 // What a script has come to: the record, where it stands, and how many bytes of a line the carry holds. The words that tasks hold, WORDS of them, and the
@@ -93,7 +92,7 @@ fn log_line(stage: u8, a: Answer, line: &[u8], log: &mut [u8]) -> Logged
     ensures memory { log.new ≡ put_bytes log.old 0 (log_at stage a line.now) }
 {
     if stage == RUNNING {
-        let Put::Next(n) = run::log_answer(a, log) else {
+        let Some(n) = run::log_answer(a, log) else {
             return Logged {
                 stage: stage,
                 written: 0,

@@ -1,7 +1,7 @@
 -- Laws of one line run: a line that is a step is a call of demand 3's list; a malformed one changes nothing, and is answered as the rules answer it.
 use Rattle.std.proofs.Math.Path.{◌≡◌, refl, ap}
 use Rattle.std.proofs.Common.{sym, ◌∙◌, arith, leb-false}
-use Rattle.std.specs.Prelude.{List, ◌++◌, Bool, ◌⊎◌, ℕ, ◌+◌, ◌<◌, leb}
+use Rattle.std.specs.Prelude.{List, ◌++◌, Bool, ◌⊎◌, ℕ, ◌+◌, ◌<◌, leb, Some, None}
 use Rattle.std.proofs.Math.Bool.{true, false, cond}
 use Rattle.std.proofs.Math.Logic.{inl, inr}
 use Rattle.std.proofs.Math.Option.{Option, none, some}
@@ -9,7 +9,6 @@ use Rattle.std.proofs.Math.ListN.{length, drop}
 use Rattle.lists.specs.TestLaws.{which, and_r}
 use Rattle.lists.specs.TableLaws.{take_pad}
 use Rattle.text.specs.Place.{room, put_answer, put_bytes}
-use Rattle.text.specs.declared.place.Put.TheVariants.{Next, Full}
 use Rattle.rules.specs.Sizes.{held_words}
 use Rattle.rules.specs.Step.{Step}
 use Rattle.rules.specs.Log.{log_line, memory_after}
@@ -169,17 +168,17 @@ refused_line h line memory T = go (which (room memory 0 log))
 
 -- by what became of the log line: it was written, or it had no room
 module _ (h : Whole) (o : After) (log memory : List ℕ) where
-  pub reported_next : (n : ℕ) → put_answer memory 0 log ≡ Next n → came_to o n ≡ reported h o log memory
+  pub reported_next : (n : ℕ) → put_answer memory 0 log ≡ Some n → came_to o n ≡ reported h o log memory
   unfolding put_answer reported
   reported_next n e = elim (which (room memory 0 log)) [
-    | inl r ↦ let z : Next (0 + length log) ≡ Next n = rw r at e in rw r (ap (came_to o) (let y : 0 + length log ≡ n = cc in omega (arith, y)))
-    | inr r ↦ let z : Full ≡ Next n = rw r at e in absurd (let y : ◌≡◌ {A = ℕ} 0 1 = cc in omega arith)
+    | inl r ↦ let z : Some (0 + length log) ≡ Some n = rw r at e in rw r (ap (came_to o) (let y : 0 + length log ≡ n = cc in omega (arith, y)))
+    | inr r ↦ let z : None ≡ Some n = rw r at e in absurd (let y : ◌≡◌ {A = ℕ} 0 1 = cc in omega arith)
   ]
 
-  pub reported_full : put_answer memory 0 log ≡ Full → came_to (stays h 8 0 (standing_in h)) 0 ≡ reported h o log memory
+  pub reported_full : put_answer memory 0 log ≡ None → came_to (stays h 8 0 (standing_in h)) 0 ≡ reported h o log memory
   unfolding put_answer reported
   reported_full e = elim (which (room memory 0 log)) [
-    | inl r ↦ let z : Next (0 + length log) ≡ Full = rw r at e in absurd (let y : ◌≡◌ {A = ℕ} 0 1 = cc in omega arith)
+    | inl r ↦ let z : Some (0 + length log) ≡ None = rw r at e in absurd (let y : ◌≡◌ {A = ℕ} 0 1 = cc in omega arith)
     | inr r ↦ rw r
   ]
 
@@ -202,19 +201,19 @@ unfolding head_log head_stage
 head_bad line e = (rw e, rw e)
 
 module _ (line memory : List ℕ) where
-  pub headed_next : (n : ℕ) → put_answer memory 0 (head_log line) ≡ Next n → headed line memory ≡ record { stage = head_stage line; written = n }
+  pub headed_next : (n : ℕ) → put_answer memory 0 (head_log line) ≡ Some n → headed line memory ≡ record { stage = head_stage line; written = n }
   unfolding put_answer headed
   headed_next n e = elim (which (room memory 0 (head_log line))) [
     | inl r ↦
-        let z : Next (0 + length (head_log line)) ≡ Next n = rw r at e in
+        let z : Some (0 + length (head_log line)) ≡ Some n = rw r at e in
         let y : length (head_log line) ≡ n = (let w : 0 + length (head_log line) ≡ n = cc in omega (arith, w)) in
         rw r (λ i. record { stage = head_stage line; written = y i })
-    | inr r ↦ let z : Full ≡ Next n = rw r at e in absurd (let y : ◌≡◌ {A = ℕ} 0 1 = cc in omega arith)
+    | inr r ↦ let z : None ≡ Some n = rw r at e in absurd (let y : ◌≡◌ {A = ℕ} 0 1 = cc in omega arith)
   ]
 
-  pub headed_full : put_answer memory 0 (head_log line) ≡ Full → headed line memory ≡ record { stage = awaiting; written = 0 }
+  pub headed_full : put_answer memory 0 (head_log line) ≡ None → headed line memory ≡ record { stage = awaiting; written = 0 }
   unfolding put_answer headed
   headed_full e = elim (which (room memory 0 (head_log line))) [
-    | inl r ↦ let z : Next (0 + length (head_log line)) ≡ Full = rw r at e in absurd (let y : ◌≡◌ {A = ℕ} 0 1 = cc in omega arith)
+    | inl r ↦ let z : Some (0 + length (head_log line)) ≡ None = rw r at e in absurd (let y : ◌≡◌ {A = ℕ} 0 1 = cc in omega arith)
     | inr r ↦ rw r
   ]

@@ -9,7 +9,6 @@ use kernel::refused;
 use moves::Move;
 use record::{Answer, EIGHT, Plan, State};
 use syntax::Line;
-use text::place::Put;
 use words::{Message, Reading};
 
 // Where a script stands: its first line is awaited; steps are run; its first line was bad and nothing more is written.
@@ -71,7 +70,7 @@ pub fn make(m: Move, message: Message, words: &mut [u32], block: &mut [u32])
 }
 
 // An answer's log line at the front of the lent memory.
-pub fn log_answer(a: Answer, log: &mut [u8]) -> Put
+pub fn log_answer(a: Answer, log: &mut [u8]) -> Option<usize>
     ensures answer { result ≡ put_answer log.old 0 (line_for a) }
     ensures memory { log.new ≡ put_bytes log.old 0 (line_for a) }
 {
@@ -79,7 +78,7 @@ pub fn log_answer(a: Answer, log: &mut [u8]) -> Put
         // refused: only logged, the record being still the one handed in
         let Answer::Refused { number, value, run } = a else {
             // never reached: an answer is accepted or refused
-            return Put::Full;
+            return None;
         };
         return log_lines::write_line(log, number, value, run);
     };
@@ -101,7 +100,7 @@ pub fn run_line(s: State, line: &[u8], words: &mut [u32], block: &mut [u32], log
     let a = p.answer;
     let next = p.state;
     let m = p.moves;
-    let Put::Next(n) = log_answer(a, log) else {
+    let Some(n) = log_answer(a, log) else {
         let none = refused::without_room(s, sound);
         return Ran {
             state: s,
@@ -123,7 +122,7 @@ pub fn run_header(line: &[u8], log: &mut [u8]) -> Headed
     ensures memory { log.new ≡ memory_head line.now log.old }
 {
     if words::same(line, b"kernel\t1") {
-        let Put::Next(n) = log_lines::write_header(log) else {
+        let Some(n) = log_lines::write_header(log) else {
             return Headed {
                 stage: AWAITING,
                 written: 0,
@@ -134,7 +133,7 @@ pub fn run_header(line: &[u8], log: &mut [u8]) -> Headed
             written: n,
         };
     }
-    let Put::Next(n) = log_lines::write_bad(log) else {
+    let Some(n) = log_lines::write_bad(log) else {
         return Headed {
             stage: AWAITING,
             written: 0,

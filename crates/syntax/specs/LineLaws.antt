@@ -1,5 +1,5 @@
 -- What a line is while its numbers are read: what its name makes of the numbers so far and those of the fields that are left.
-use Rattle.std.specs.Prelude.{◌≡◌, refl, ℕ, ◌+◌, ◌≤◌, ◌<◌, ltb, length, drop}
+use Rattle.std.specs.Prelude.{◌≡◌, refl, ℕ, ◌+◌, ◌≤◌, ◌<◌, ltb, length, drop, Option as Parsed, Some, None}
 use Rattle.std.proofs.Math.Path.{ap}
 use Rattle.std.proofs.Common.{sym, ◌∙◌, inl, inr, arith, length-append, length-drop, le-leb, le-ltb, lt-ltb, ltb-true, ltb-false}
 use mathlib.Core.List.{List, [], ◌∷◌, ◌++◌, append-nil}
@@ -12,8 +12,6 @@ use Rattle.text.specs.CutLaws.{up_to_most}
 use Rattle.text.specs.Fields.{tab, fields, field_at}
 use Rattle.text.specs.FieldsLaws.{fields_next, fields_last, field_first}
 use Rattle.decimal.specs.Parse.{parsed}
-use Rattle.decimal.specs.declared.Number.{Number}  -- keep
-use Rattle.decimal.specs.declared.Number.TheVariants.{Value, Bad}  -- keep
 use Rattle.words.specs.Form.{longest, most_numbers, words, made_by, with_number, numbers_of, made_from, step_in, step_on}
 use Rattle.syntax.specs.Unread.{unread, behind_these, made_with}
 use Rattle.syntax.specs.WrittenLaws.{made_many}
@@ -44,17 +42,17 @@ unfolding behind_these
 behind_none none = refl
 behind_none (some k) = refl
 
-behind_value : (l : List ℕ) (v : ℕ) (o : Option (List ℕ)) → behind_these l (with_number (Value v) o) ≡ behind_these (l ++ v ∷ []) o
+behind_value : (l : List ℕ) (v : ℕ) (o : Option (List ℕ)) → behind_these l (with_number (Some v) o) ≡ behind_these (l ++ v ∷ []) o
 unfolding behind_these with_number
 behind_value l v none = refl
 behind_value l v (some k) = ap some (sym (append_snoc l v k))
 
 -- as many numbers as a word takes, and a field more
-many_none : (n l : List ℕ) (x : Number) (o : Option (List ℕ)) → length l ≡ most_numbers → made_from n (behind_these l (with_number x o)) ≡ none
+many_none : (n l : List ℕ) (x : Parsed ℕ) (o : Option (List ℕ)) → length l ≡ most_numbers → made_from n (behind_these l (with_number x o)) ≡ none
 unfolding made_from behind_these with_number
-many_none n l Bad o h = refl
-many_none n l (Value v) none h = refl
-many_none n l (Value v) (some k) h = made_many n (l ++ v ∷ k) (omega (arith, length-append l (v ∷ k)))
+many_none n l None o h = refl
+many_none n l (Some v) none h = refl
+many_none n l (Some v) (some k) h = made_many n (l ++ v ∷ k) (omega (arith, length-append l (v ∷ k)))
 
 -- a line that is too long
 pub line_long : (line : List ℕ) → longest < length line → none ≡ step_on line
@@ -87,10 +85,10 @@ module _ (line n l : List ℕ) (at : ℕ) (h : made_with n l at line ≡ step_on
     pub line_within : at + 1 + length field ≤ length line
     line_within = rw f (omega (arith, up_to_most tab (drop (at + 1) line), length-drop (at + 1) line))
 
-    pub line_bad : parsed field ≡ Bad → none ≡ step_on line
+    pub line_bad : parsed field ≡ None → none ≡ step_on line
     unfolding behind_these with_number numbers_of made_from
     line_bad e = rw (← h, unread_next line at k, ← f, e)
 
-    pub line_number : (v : ℕ) → parsed field ≡ Value v → made_with n (l ++ v ∷ []) (at + 1 + length field) line ≡ step_on line
+    pub line_number : (v : ℕ) → parsed field ≡ Some v → made_with n (l ++ v ∷ []) (at + 1 + length field) line ≡ step_on line
     unfolding numbers_of
     line_number v e = ap (made_from n) (sym (rw (unread_next line at k, ← f, e) (behind_value l v _))) ∙ h

@@ -1,5 +1,5 @@
 -- A formed step's line is that step, and a line that is a step is that formed step's line.
-use Rattle.std.specs.Prelude.{◌≡◌, refl, List, [], ◌∷◌, ◌++◌, map, true, false, ℕ, zero, suc, ◌+◌, ◌*◌, ◌/◌, ◌≤◌, ◌<◌, eqb, ltb, leb, length, get_or}
+use Rattle.std.specs.Prelude.{◌≡◌, refl, List, [], ◌∷◌, ◌++◌, map, true, false, ℕ, zero, suc, ◌+◌, ◌*◌, ◌/◌, ◌≤◌, ◌<◌, eqb, ltb, leb, length, get_or, Option as Parsed, Some, None}
 use Rattle.std.proofs.Common.{ap, ◌∙◌, append-nil, inl, inr, arith, length-append, ne_eqb, le-leb, leb-true}
 use Rattle.std.proofs.Math.Option.{Option, none, some}
 use Rattle.lists.specs.TestLaws.{which, and_r, none_some, some_same}
@@ -10,8 +10,6 @@ use Rattle.text.specs.Fields.{tab, fields}
 use Rattle.text.specs.FieldsLaws.{fields_line}
 use Rattle.decimal.specs.Parse.{most, parsed}
 use Rattle.decimal.specs.ParseLaws.{parse_written, written_parse}
-use Rattle.decimal.specs.declared.Number.{Number}  -- keep
-use Rattle.decimal.specs.declared.Number.TheVariants.{Value, Bad}  -- keep
 use Rattle.rules.specs.Step.{Step, task, mutex, sem, start, lock, unlock, pend, post, flush, sleep, yield, hold, free, tick, level, outcome, queue, send, receive, word}
 use Rattle.rules.specs.Sizes.{held_words}
 use Rattle.rules.specs.Answer.{is_formed}
@@ -149,12 +147,12 @@ made_many n l h = by_made (made_by words n l) refl where
   by_made (some x) e = absurd (let r = made_good n l x e in omega (arith, ap length r.1, row_length x r.2))
 
 -- numbers that are read are written the same again
-number_split : {G : Type 0} (y : Number) (o : Option (List ℕ)) (l : List ℕ) → with_number y o ≡ some l
-    → ((n : ℕ) (k : List ℕ) → y ≡ Value n → o ≡ some k → n ∷ k ≡ l → G) → G
+number_split : {G : Type 0} (y : Parsed ℕ) (o : Option (List ℕ)) (l : List ℕ) → with_number y o ≡ some l
+    → ((n : ℕ) (k : List ℕ) → y ≡ Some n → o ≡ some k → n ∷ k ≡ l → G) → G
 unfolding with_number
-number_split Bad o l h g = none_some refl h
-number_split (Value n) none l h g = none_some refl h
-number_split (Value n) (some k) l h g = g n k refl refl (some_same h)
+number_split None o l h g = none_some refl h
+number_split (Some n) none l h g = none_some refl h
+number_split (Some n) (some k) l h g = g n k refl refl (some_same h)
 
 within_more : (n : ℕ) (k : List ℕ) → n ≤ most → Within k → Within (n ∷ k)
 within_more n k h g zero = h

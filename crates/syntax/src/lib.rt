@@ -7,7 +7,6 @@ ghost use Rattle.words.specs.Form.{words, made_by, step_on};
 ghost use Rattle.syntax.specs.Line.{line_read};
 
 use arrive::LONGEST;
-use decimal::Number;
 use text::fields::TAB;
 use text::{cut, fields};
 use words::{MOST_NUMBERS, Message, Reading};
@@ -56,7 +55,7 @@ pub fn read_line(line: &[u8]) -> Line
         }
         let start = at + 1;
         let field = cut::piece(line, start, TAB);
-        let Number::Value(value) = decimal::parse(field) else {
+        let Some(value) = decimal::parse(field) else {
             return no_step();
         };
         values[n] = value;

@@ -1,27 +1,21 @@
 -- Laws of cutting a text into pieces.
-use Rattle.std.specs.Prelude.{◌≡◌, eqb, get_or, take, drop}
+use Rattle.std.specs.Prelude.{◌≡◌, cond, eqb, ltb, get_or, take, drop}
 use Rattle.std.proofs.Math.Path.{refl}
-use Rattle.std.proofs.Common.{ap, sym, ◌∙◌, add-one, drop_of_length-le, length-drop, drop-drop, take_all}
+use Rattle.std.proofs.Common.{ap, sym, ◌∙◌, drop_of_length-le, length-drop, drop-drop, take_all}
 use mathlib.Core.List.{List, [], ◌∷◌, ◌++◌}
 use Rattle.std.proofs.Math.Logic.{inl, inr}
 use Prim.Native.Nat.{ℕ, zero, suc, ◌+◌, ◌≤◌, ◌<◌}
 use native.Mathlib.Omega.{arith}
 use Rattle.std.proofs.Math.ListN.{length}
-use Rattle.std.proofs.Math.Seq.{drop-cons}
-use borrow.Author.Tests.{eq-eqb, ne_eqb, eqb-true, eqb-false}
+use borrow.Author.Tests.{ne_eqb, eqb-true, eqb-false, ltb-false}
+use Rattle.std.specs.List.{position, position_or_len}
+use Rattle.std.specs.Prelude.{unwrap_or}
+use Rattle.std.proofs.lemmas.List.Recursion.{is_position_or_len}
 use Rattle.text.specs.Cut.{up_to, find_from, Free, on_first, pieces, behind, joined}
 use Rattle.lists.specs.TestLaws.{which}
 
 module _ (b : ℕ) where
-  -- one byte at place i
-  pub up_to_hit : (l : List ℕ) (i : ℕ) → i < length l → get_or l i 0 ≡ b → up_to b (drop i l) ≡ []
-  unfolding up_to
-  up_to_hit l i h e = rw (drop-cons l i 0 h, eq-eqb _ _ e)
-
-  pub up_to_miss : (l : List ℕ) (i : ℕ) → i < length l → (get_or l i 0 ≡ b → ⊥) → up_to b (drop i l) ≡ get_or l i 0 ∷ up_to b (drop (i + 1) l)
-  unfolding up_to
-  up_to_miss l i h e = rw (add-one, drop-cons l i 0 h, ne_eqb _ _ e)
-
+  -- past the end nothing stands
   pub up_to_end : (l : List ℕ) (i : ℕ) → length l ≤ i → up_to b (drop i l) ≡ []
   unfolding up_to
   up_to_end l i h = rw (drop_of_length-le l h)
@@ -35,6 +29,19 @@ module _ (b : ℕ) where
   unfolding up_to
   up_to_take [] = refl
   up_to_take (c ∷ cs) = elim (which (eqb c b)) [ inl e ↦ rw e | inr e ↦ rw (e, up_to_take cs) ]
+
+  -- in std's words it ends where the first b stands, or else where l ends
+  up_to_len : (l : List ℕ) → length (up_to b l) ≡ position_or_len (λ c. eqb c b) l
+  unfolding up_to
+  up_to_len l = is_position_or_len (λ (l : List ℕ). length (up_to b l)) (λ c. eqb c b) refl more l where
+    more : (c : ℕ) (cs : List ℕ) → length (up_to b (c ∷ cs)) ≡ cond (eqb c b) 0 (1 + length (up_to b cs))
+    more c cs = elim (which (eqb c b)) [ inl e ↦ rw e | inr e ↦ rw e (omega arith) ]
+
+  pub up_to_first : (l : List ℕ) → unwrap_or (position (λ c. eqb c b) l) (length l) ≡ length (up_to b l)
+  up_to_first l = elim (which (ltb (length (up_to b l)) (length l))) [
+    | inl e ↦ rw (← up_to_len l, e)
+    | inr e ↦ rw (← up_to_len l, e) (omega (arith, ltb-false _ _ e, up_to_most l))
+  ]
 
   -- a text with a b, and one with none
   up_to_split : (l : List ℕ) → length (up_to b l) < length l → l ≡ up_to b l ++ b ∷ drop (suc (length (up_to b l))) l

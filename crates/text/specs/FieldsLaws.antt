@@ -1,7 +1,10 @@
 -- Laws of a line's fields.
-use Rattle.std.specs.Prelude.{◌≡◌, refl, List, [], ◌∷◌, ℕ, zero, suc, ◌+◌, ◌-◌, ◌≤◌, ◌<◌, ltb, length, get_or, drop}
-use Rattle.std.proofs.Common.{ap, ◌∙◌, add-one, arith, drop_of_length-le, drop-cons, eq-eqb, ne_eqb, ltb-true, ltb-false}
+use Rattle.std.specs.Prelude.{◌≡◌, refl, List, [], ◌∷◌, ℕ, zero, suc, ◌+◌, ◌-◌, ◌≤◌, ◌<◌, cond, eqb, ltb, length, get_or, drop}
+use Rattle.std.proofs.Common.{ap, sym, ◌∙◌, arith, drop_of_length-le, ltb-true, ltb-false}
 use Rattle.std.proofs.Math.Logic.{inl, inr}
+use Rattle.std.specs.List.{slice_split, count_by}
+use Rattle.std.proofs.lemmas.List.Splits.{length-slice_split}
+use Rattle.std.proofs.lemmas.List.Recursion.{same_from_clauses}
 use Rattle.text.specs.Cut.{up_to, Free, find_from, on_first, pieces, behind, joined}
 use Rattle.lists.specs.TestLaws.{which}
 use Rattle.text.specs.CutLaws.{pieces_next, pieces_last, joined_pieces, pieces_some, pieces_free}
@@ -12,6 +15,17 @@ pub fields_some : (line : List ℕ) → 0 < length (fields line)
 unfolding fields pieces
 fields_some [] = omega arith
 fields_some (c ∷ cs) = pieces_some tab ([] ∷ []) c cs
+
+-- they are the parts of std's `split`
+pub fields_split : (line : List ℕ) → slice_split (λ c. eqb c tab) line ≡ fields line
+unfolding fields pieces
+fields_split line = same_from_clauses (λ l. slice_split (λ c. eqb c tab) l) (λ l. pieces tab ([] ∷ []) l) (λ c ps. cond (eqb c tab) ([] ∷ ps) (on_first c ps)) refl part (λ c cs. refl) line where
+  part : (c : ℕ) (cs : List ℕ) → slice_split (λ c. eqb c tab) (c ∷ cs) ≡ cond (eqb c tab) ([] ∷ slice_split (λ c. eqb c tab) cs) (on_first c (slice_split (λ c. eqb c tab) cs))
+  part c cs = elim (slice_split (λ c. eqb c tab) cs) [ [] ↦ refl | p ∷ ps ↦ refl ]
+
+-- so there is one more than there are tabs
+pub fields_count : (line : List ℕ) → count_by (λ c. eqb c tab) line + 1 ≡ length (fields line)
+fields_count line = sym (length-slice_split (λ c. eqb c tab) line) ∙ ap length (fields_split line)
 
 -- cutting gives back the line
 pub fields_line : (line : List ℕ) → joined tab (fields line) ≡ line
@@ -40,23 +54,6 @@ module _ (line : List ℕ) (at : ℕ) where
     | inl e ↦ pieces_last tab ([] ∷ []) line at (λ c. refl) (ltb-true _ _ e) h
     | inr e ↦ rw (drop_of_length-le line (ltb-false _ _ e))
   ]
-
--- a byte that is no tab makes no field
-same_count : (c : ℕ) (ps : List (List ℕ)) → 0 < length ps → length (on_first c ps) ≡ length ps
-same_count c [] h = absurd (omega arith)
-same_count c (p ∷ ps) h = refl
-
-pub count_other : (line : List ℕ) (i : ℕ) → i < length line → (get_or line i 0 ≡ tab → ⊥) → length (fields (drop i line)) ≡ length (fields (drop (i + 1) line))
-unfolding fields pieces
-count_other line i h e = rw (add-one, drop-cons line i 0 h, ne_eqb _ _ e) (same_count (get_or line i 0) (fields (drop (suc i) line)) (fields_some (drop (suc i) line)))
-
-pub count_tab : (line : List ℕ) (i : ℕ) → i < length line → get_or line i 0 ≡ tab → length (fields (drop i line)) ≡ suc (length (fields (drop (i + 1) line)))
-unfolding fields pieces
-count_tab line i h e = rw (add-one, drop-cons line i 0 h, eq-eqb _ _ e)
-
-pub count_end : (line : List ℕ) (i : ℕ) → length line ≤ i → length (fields (drop i line)) ≡ 1
-unfolding fields pieces
-count_end line i h = rw (drop_of_length-le line h)
 
 -- the n-th field from a place on: the first, one behind a tab, or none
 module _ (line : List ℕ) (at : ℕ) where

@@ -1,5 +1,5 @@
 -- Laws of writing bytes at a place of lent memory.
-use Rattle.std.specs.Prelude.{◌≡◌, List, ◌∷◌, ◌++◌, ℕ, suc, ◌+◌, ◌≤◌, ◌<◌, get_or, take, drop, set}
+use Rattle.std.specs.Prelude.{◌≡◌, List, ◌∷◌, ◌++◌, ℕ, suc, ◌+◌, ◌≤◌, ◌<◌, Some, None, get_or, take, drop, set}
 use Rattle.std.proofs.Common.{append_assoc, arith, length-take-le, take-suc, take_at}
 use Rattle.std.proofs.Math.Logic.{inl, inr}
 use Rattle.std.proofs.Math.ListN.{length, length-append, length-drop}
@@ -8,10 +8,9 @@ use Rattle.std.proofs.lemmas.List.{set_at}
 use borrow.Author.Tests.{le-leb, lt-leb, leb-true}
 use Rattle.text.specs.Place.{room, put_answer, put_bytes, laid}
 use Rattle.lists.specs.TestLaws.{which}
-use Rattle.text.specs.declared.place.Put.TheVariants.{Next, Full}
 
 module _ (l : List ℕ) (at : ℕ) (bs : List ℕ) where
-  pub put_next : at + length bs ≤ length l → put_answer l at bs ≡ Next (at + length bs)
+  pub put_next : at + length bs ≤ length l → put_answer l at bs ≡ Some (at + length bs)
   unfolding put_answer
   put_next h = rw (le-leb _ _ h)
 
@@ -19,7 +18,7 @@ module _ (l : List ℕ) (at : ℕ) (bs : List ℕ) where
   unfolding put_bytes
   put_laid h = rw (le-leb _ _ h)
 
-  pub put_full : length l < at + length bs → put_answer l at bs ≡ Full
+  pub put_full : length l < at + length bs → put_answer l at bs ≡ None
   unfolding put_answer
   put_full h = rw (lt-leb _ _ h)
 

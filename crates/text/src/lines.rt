@@ -14,6 +14,7 @@ pub fn end(text: &[u8], at: usize) -> usize
 }
 
 // Where the next line begins: behind the LF, or at the text's end, where no line begins.
+#[tactic(auto, unfolding(crate::specs::Lines::next_line))]
 pub fn next(text: &[u8], at: usize) -> usize
     ensures { result ≡ next_line text.now at }
 {

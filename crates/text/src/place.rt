@@ -2,28 +2,16 @@
 ghost use Rattle.std.specs.Prelude.{◌≡◌};
 ghost use Rattle.text.specs.Place.{put_answer, put_bytes};
 
-// What became of a writing: the place after it, or no room and nothing written.
-#[derive(Drop)]
-pub enum Put {
-    Next(usize),
-    Full,
-}
-
-// The bytes of src, from `at` on.
-pub fn put_bytes(out: &mut [u8], at: usize, src: &[u8]) -> Put
+// The bytes of src, from `at` on. The answer is the place after them, or None: no room, and nothing written.
+#[tactic(auto, unfolding(crate::specs::Place::put_answer, crate::specs::Place::put_bytes))]
+pub fn put_bytes(out: &mut [u8], at: usize, src: &[u8]) -> Option<usize>
     ensures answer { result ≡ put_answer out.old at src.now }
     ensures memory { out.new ≡ put_bytes out.old at src.now }
 {
-    if out.len() < at {
-        return Put::Full;
+    let end = at.checked_add(src.len())?;
+    if out.len() < end {
+        return None;
     }
-    if out.len() - at < src.len() {
-        return Put::Full;
-    }
-    let mut i = 0;
-    while i < src.len() {
-        out[at + i] = src[i];
-        i += 1;
-    }
-    Put::Next(at + i)
+    out[at..end].copy_from_slice(src);
+    Some(end)
 }

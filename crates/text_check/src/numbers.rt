@@ -1,16 +1,14 @@
 // Numbers read and written, round the powers of ten and of two.
 use crate::show;
-use decimal::Number;
 use std::io;
-use text::place::Put;
 
 // v written at place 1 of twelve bytes.
 fn write(rt: &impl Print, v: u32) -> io::Result<()> {
     show::size(rt, decimal::digits(v))?;
     let mut out = [b'.'; 12];
     match decimal::write(&mut out, 1, v) {
-        Put::Next(n) => show::size(rt, n)?,
-        Put::Full => show::text(rt, b" full")?,
+        Some(n) => show::size(rt, n)?,
+        None => show::text(rt, b" full")?,
     }
     show::quoted(rt, &out)
 }
@@ -20,12 +18,12 @@ fn parse(rt: &impl Print, s: &[u8]) -> io::Result<()> {
     show::text(rt, b"parse")?;
     show::quoted(rt, s)?;
     match decimal::parse(s) {
-        Number::Value(v) => {
+        Some(v) => {
             show::text(rt, b" ")?;
             show::number(rt, v as u64)?;
             write(rt, v)?;
         }
-        Number::Bad => show::text(rt, b" bad")?,
+        None => show::text(rt, b" bad")?,
     }
     show::end(rt)
 }
@@ -66,8 +64,8 @@ fn room(rt: &impl Print, at: usize, v: u32) -> io::Result<()> {
     show::number(rt, v as u64)?;
     let mut out = [b'.'; 8];
     match decimal::write(&mut out, at, v) {
-        Put::Next(n) => show::size(rt, n)?,
-        Put::Full => show::text(rt, b" full")?,
+        Some(n) => show::size(rt, n)?,
+        None => show::text(rt, b" full")?,
     }
     show::quoted(rt, &out)?;
     show::end(rt)

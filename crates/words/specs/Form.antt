@@ -1,11 +1,9 @@
 -- "Script and log": which lines are steps, and which step a line is.
-use Rattle.std.specs.Prelude.{List, [], ◌∷◌, Bool, true, false, cond, ℕ, eqb, ltb, leb, length}
+use Rattle.std.specs.Prelude.{List, [], ◌∷◌, Bool, true, false, cond, ℕ, eqb, ltb, leb, length, Option as Parsed, Some, None}
 use Rattle.std.proofs.Math.Option.{Option, none, some}
 use Rattle.lists.specs.Test.{◌and◌}
 use Rattle.text.specs.Fields.{fields}
 use Rattle.decimal.specs.Parse.{parsed}
-use Rattle.decimal.specs.declared.Number.{Number}
-use Rattle.decimal.specs.declared.Number.TheVariants.{Value, Bad}
 use Rattle.rules.specs.Step.{Step, task, mutex, sem, start, lock, unlock, pend, post, flush, sleep, yield, hold, free, tick, level, outcome, queue, send, receive, word}
 use Rattle.rules.specs.Sizes.{held_words}
 use Rattle.text.specs.Ascii.{ascii}
@@ -96,10 +94,10 @@ made_by [] n l = none
 made_by (w ∷ ws) n l = cond (same_bytes n w.name) (w.makes l) (made_by ws n l)
 
 -- "and its numbers: decimal, no sign, no needless leading zero, at most 4294967295": all of them, or none
-unfoldable pub with_number : Number → Option (List ℕ) → Option (List ℕ)
-with_number Bad l = none
-with_number (Value n) none = none
-with_number (Value n) (some l) = some (n ∷ l)
+unfoldable pub with_number : Parsed ℕ → Option (List ℕ) → Option (List ℕ)
+with_number None l = none
+with_number (Some n) none = none
+with_number (Some n) (some l) = some (n ∷ l)
 
 unfoldable pub numbers_of : List (List ℕ) → Option (List ℕ)
 numbers_of [] = some []

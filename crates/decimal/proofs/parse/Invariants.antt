@@ -1,12 +1,7 @@
 -- `decimal::parse`: the number so far, with the digits that are left, is the number of the whole.
-use mathlib.Core.Path.{◌≡◌}
-use Prim.Native.Nat.{◌≤◌, ◌-◌}
-use lib.ListN.{length, drop}
-use Rattle.decimal.specs.Parse.{most, with_digits, parsed}
+use Rattle.std.specs.Prelude.{◌≡◌, drop}
+use Rattle.decimal.specs.Parse.{with_digits}
 use Rattle.decimal.proofs.parse.Given as goal
 
-abbrev pub invariant-loop-i : goal.invariant-loop-i
-invariant-loop-i l = (l.i ≤ length l.s) × (l.n ≤ most) × (with_digits l.n (drop l.i l.s) ≡ parsed l.s)
-
-abbrev pub decreases-loop-i : goal.decreases-loop-i
-decreases-loop-i l = length l.s - l.i
+abbrev pub invariant-loop-c : goal.invariant-loop-c
+invariant-loop-c l = with_digits l.n (drop l.c-index l.s) ≡ with_digits 0 l.s

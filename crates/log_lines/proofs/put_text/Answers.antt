@@ -3,12 +3,12 @@ use mathlib.Core.Path.{sym, ◌∙◌}
 use Rattle.log_lines.specs.PutLaws.{after_next, after_full}
 use Rattle.log_lines.proofs.put_text.Goals as goal
 
-pub returns-in-Next : goal.returns-in-Next
-returns-in-Next c =
+pub returns-in-Some : goal.returns-in-Some
+returns-in-Some c =
     let p = c.put_bytes in
-    record { place = after_next _ _ _ _ (sym p.ensures.answer ∙ c.in-Next.is); memory = p.ensures.memory }
+    record { place = after_next _ _ _ _ (sym p.ensures.answer ∙ c.in-Some.is); memory = p.ensures.memory }
 
-pub returns-in-Full : goal.returns-in-Full
-returns-in-Full c =
+pub returns-in-None : goal.returns-in-None
+returns-in-None c =
     let p = c.put_bytes in
-    record { place = after_full _ _ _ (sym p.ensures.answer ∙ c.in-Full.is); memory = p.ensures.memory }
+    record { place = after_full _ _ _ (sym p.ensures.answer ∙ c.in-None.is); memory = p.ensures.memory }

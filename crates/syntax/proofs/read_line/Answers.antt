@@ -1,7 +1,6 @@
 -- `read_line`: where a field ends, the name with the numbers so far and those of the fields that are left makes what the line is.
 use borrow.Author.Rules.{rules}
 use mathlib.Core.Path.{ap, sym, ◌∙◌}
-use Prim.Native.Nat.{◌-◌}
 use native.Mathlib.Numerals.{add-one}
 use native.Mathlib.Omega.{arith}
 use lib.ListN.{length-set}
@@ -33,8 +32,8 @@ overflow_add-at c =
 pub loop-at-preserved : goal.loop-at-preserved
 loop-at-preserved c =
     let l = c.loop-at in
-    let more = line_number _ _ _ _ l.invariant.2 c.loop-at-test.true _ c.piece-field.ensures _ (sym c.parse.ensures ∙ c.in-Value.is) in
-    (omega arith, rw length-set l.invariant.1, rw (add-one l.n, take-suc-set l.values l.n c.in-Value.value (omega arith)) more)
+    let more = line_number _ _ _ _ l.invariant.2 c.loop-at-test.true _ c.piece-field.ensures _ (sym c.parse.ensures ∙ c.in-Some.is) in
+    (omega arith, rw length-set l.invariant.1, rw (add-one l.n, take-suc-set l.values l.n c.in-Some.value (omega arith)) more)
 
 pub slice_bounds-numbers-end : goal.slice_bounds-numbers-end
 slice_bounds-numbers-end c = let l = c.loop-at in sym (length-take-le l.n l.values (omega arith))

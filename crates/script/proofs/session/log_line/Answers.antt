@@ -18,7 +18,7 @@ returns-then-stage-eq-RUNNING c =
     let a = c.args in
     let w = c.log_answer.ensures in
     let e = eq-eqb _ _ c.if-stage-eq-RUNNING.true in
-    record { answer = answer_logged a.stage a.a a.line.now a.log.now e _ (sym w.answer ∙ c.in-Next.is); memory = w.memory ∙ answer_memory a.stage a.a a.line.now a.log.now e }
+    record { answer = answer_logged a.stage a.a a.line.now a.log.now e _ (sym w.answer ∙ c.in-Some.is); memory = w.memory ∙ answer_memory a.stage a.a a.line.now a.log.now e }
 
 pub returns-then-stage-eq-AWAITING : goal.returns-then-stage-eq-AWAITING
 returns-then-stage-eq-AWAITING c =

@@ -22,8 +22,8 @@ returns-then-same c =
     let a = c.args in
     let w = c.write_header in
     let h = head_good a.line.now (sym c.same.ensures ∙ c.if-same.true) in
-    let put = ap (put_answer a.log.now 0) h.0 ∙ sym w.ensures.answer ∙ c.in-Next.is in
-    record { answer = sym (headed_next a.line.now a.log.now _ put ∙ (λ i. record { stage = h.1 i; written = c.in-Next.n })); memory = w.ensures.memory ∙ ap (put_bytes a.log.now 0) (sym h.0) }
+    let put = ap (put_answer a.log.now 0) h.0 ∙ sym w.ensures.answer ∙ c.in-Some.is in
+    record { answer = sym (headed_next a.line.now a.log.now _ put ∙ (λ i. record { stage = h.1 i; written = c.in-Some.n })); memory = w.ensures.memory ∙ ap (put_bytes a.log.now 0) (sym h.0) }
 
 pub returns-in_default-write_bad : goal.returns-in_default-write_bad
 unfolding memory_head header_bytes ascii
@@ -40,5 +40,5 @@ returns c =
     let a = c.args in
     let w = c.write_bad in
     let h = head_bad a.line.now (sym c.same.ensures ∙ c.if-same.false) in
-    let put = ap (put_answer a.log.now 0) h.0 ∙ sym w.ensures.answer ∙ c.in-Next-write_bad.is in
-    record { answer = sym (headed_next a.line.now a.log.now _ put ∙ (λ i. record { stage = h.1 i; written = c.in-Next-write_bad.n })); memory = w.ensures.memory ∙ ap (put_bytes a.log.now 0) (sym h.0) }
+    let put = ap (put_answer a.log.now 0) h.0 ∙ sym w.ensures.answer ∙ c.in-Some-write_bad.is in
+    record { answer = sym (headed_next a.line.now a.log.now _ put ∙ (λ i. record { stage = h.1 i; written = c.in-Some-write_bad.n })); memory = w.ensures.memory ∙ ap (put_bytes a.log.now 0) (sym h.0) }

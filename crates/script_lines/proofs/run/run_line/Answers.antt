@@ -39,6 +39,6 @@ returns c =
     let K : Known _ h = record { typed = t.types; truth = t.answer a.block.now refl } in
     let o = carried h (message_on (step_on a.line.now)) p.result in
     let is = plan_answers _ a.s a.words.now a.block.now _ p.result (step_on a.line.now) p.ensures read K in
-    let next = reported_next h o (line_for o.answer) a.log.now _ (sym w.answer ∙ c.in-Next.is) ∙ answer_reported h a.line.now a.log.now o is in
+    let next = reported_next h o (line_for o.answer) a.log.now _ (sym w.answer ∙ c.in-Some.is) ∙ answer_reported h a.line.now a.log.now o is in
     let m = c.make.ensures in
     let message = ap (λ (l : Line). message_words l.message) read ∙ message_back (step_on a.line.now) in record { answer = ap ran_with next; held = m.held ∙ ap (λ z. words_after p.result.moves a.words.now z a.block.now) message ∙ ap (λ (r : Came). r.after.whole.words) next; lent = m.memory ∙ ap (λ z. block_after p.result.moves a.words.now z a.block.now) message ∙ ap (λ (r : Came). r.after.whole.block) next; memory = w.memory ∙ answer_memory h a.line.now a.log.now o is }

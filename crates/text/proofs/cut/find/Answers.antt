@@ -1,24 +1,11 @@
--- `text::cut::find`: no b was passed, so the first one is where it was.
-use mathlib.Core.Path.{refl, ap}
-use native.Mathlib.Omega.{arith}
-use lib.ListN.{length}
-use Rattle.text.specs.CutLaws.{up_to_hit, up_to_miss, up_to_end}
+-- `text::cut::find`: the first b of the rest, or its end.
+use Rattle.std.proofs.Common.{◌≡◌, drop, arith}
+use Rattle.std.proofs.lemmas.Grind.{common_steps}
+use Rattle.text.specs.CutLaws.{up_to_first}
 use Rattle.text.proofs.cut.find.Goals as goal
-
-pub loop-i-init : goal.loop-i-init
-loop-i-init c = refl
-
-pub returns-then-text-i : goal.returns-then-text-i
-returns-then-text-i c =
-    let a = c.args in
-    omega (arith, ap length (up_to_hit a.b a.text.now c.loop-i.i c.loop-i-test.true c.if-text-i.true))
-
-pub loop-i-preserved : goal.loop-i-preserved
-loop-i-preserved c =
-    let a = c.args in
-    omega (arith, ap length (up_to_miss a.b a.text.now c.loop-i.i c.loop-i-test.true c.if-text-i.false))
 
 pub returns : goal.returns
 returns c =
-    let a = c.args in
-    omega (arith, ap length (up_to_end a.b a.text.now c.loop-i.i c.loop-i-test.false))
+    let r = c.unwrap_or-rest.result.now in
+    let d : r ≡ drop c.args.at c.args.text.now = grind (arith, common_steps) in
+    rw (c.unwrap_or.ensures, c.first.ensures, up_to_first c.args.b r, d)

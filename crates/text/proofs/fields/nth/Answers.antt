@@ -1,33 +1,31 @@
--- `text::fields::nth`: the field that is asked for is the one `left` tabs on from `start`.
-use mathlib.Core.Path.{◌≡◌, refl, sym, ◌∙◌}
-use Prim.Native.Nat.{◌<◌}
-use native.Mathlib.Omega.{arith}
-use lib.ListN.{length}
+-- `text::fields::nth`: the field that is asked for is, from `start` on, the one behind the tabs still to be passed.
+use Rattle.std.proofs.Common.{◌≡◌, sym, ◌∙◌, ◌-◌, ◌+◌, ◌<◌, length, arith}
 use Rattle.text.specs.Cut.{find_from}
 use Rattle.text.specs.Fields.{tab}
 use Rattle.text.specs.FieldsLaws.{field_first, field_behind, field_none}
 use Rattle.text.proofs.fields.nth.Goals as goal
 
-pub loop-left-init : goal.loop-left-init
-loop-left-init c = refl
+pub loop-init : goal.loop-init
+loop-init c = let e : c.args.n - 0 ≡ c.args.n = omega arith in rw e
 
 pub returns-then-line-end : goal.returns-then-line-end
 returns-then-line-end c =
-    let l = c.loop-left in
+    let l = c.loop in
     let line = c.args.line.now in
-    sym (field_none line l.start l.left c.loop-left-test.true (omega (arith, c.find-end.ensures))) ∙ l.invariant
+    sym (field_none line l.start (c.args.n - l.counter) (omega arith) (omega (arith, c.find-end.ensures))) ∙ l.invariant
 
-pub loop-left-preserved : goal.loop-left-preserved
-loop-left-preserved c =
-    let l = c.loop-left in
+pub loop-preserved : goal.loop-preserved
+loop-preserved c =
+    let l = c.loop in
     let line = c.args.line.now in
-    let e = c.find-end.ensures in
-    let h : find_from tab line l.start < length line = omega arith in
-    rw e (sym (field_behind line l.start l.left c.loop-left-test.true h) ∙ l.invariant)
+    let k = c.args.n - l.counter in
+    let e : c.args.n - (l.counter + 1) ≡ k - 1 = omega arith in
+    let h : find_from tab line l.start < length line = omega (arith, c.find-end.ensures) in
+    rw (c.find-end.ensures, e) (sym (field_behind line l.start k (omega arith) h) ∙ l.invariant)
 
 pub returns : goal.returns
 returns c =
-    let l = c.loop-left in
-    let z : l.left ≡ 0 = omega arith in
+    let l = c.loop in
+    let z : c.args.n - l.counter ≡ 0 = omega arith in
     let line = c.args.line.now in
     c.piece.ensures ∙ sym (field_first line l.start) ∙ (rw z at l.invariant)

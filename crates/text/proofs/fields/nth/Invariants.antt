@@ -1,11 +1,7 @@
--- `text::fields::nth`: the field that is asked for is the one `left` tabs on from `start`.
-use mathlib.Core.Path.{◌≡◌}
-use lib.ListN.{drop}
+-- `text::fields::nth`: the field that is asked for is, from `start` on, the one behind the tabs still to be passed.
+use Rattle.std.specs.Prelude.{◌≡◌, ◌-◌, drop}
 use Rattle.text.specs.Fields.{field_at}
 use Rattle.text.proofs.fields.nth.Given as goal
 
-abbrev pub invariant-loop-left : goal.invariant-loop-left
-invariant-loop-left l = field_at (drop l.start l.line) l.left ≡ field_at l.line l.n
-
-abbrev pub decreases-loop-left : goal.decreases-loop-left
-decreases-loop-left l = l.left
+abbrev pub invariant-loop : goal.invariant-loop
+invariant-loop l = field_at (drop l.start l.line) (l.n - l.counter) ≡ field_at l.line l.n
