@@ -1,6 +1,6 @@
 -- Laws of a step by its code: every step has one, no other code is a step's, and a refusal leaves the record, its words and the block.
-use Rattle.std.specs.Prelude.{◌≡◌, refl, Bool, List, ℕ, suc, ◌≤◌, ◌<◌, length}
-use Rattle.std.proofs.Common.{ap, ◌∙◌, arith}
+use Rattle.std.specs.Prelude.{◌≡◌, refl, Bool, Some, None, Option, List, ℕ, ◌≤◌, ◌<◌, length}
+use Rattle.std.proofs.Common.{ap, ◌∙◌}
 use Rattle.std.proofs.Math.ListN.{get_or-eq_default}
 use Rattle.record.specs.Whole.{Whole}
 use Rattle.record.specs.SoundRecord.{sound_of}
@@ -17,16 +17,10 @@ use Rattle.kernel.specs.Planning.{given}
 use Rattle.record.specs.declared.State.{State}  -- keep
 use Rattle.record.specs.declared.Plan.{Plan}  -- keep
 use Rattle.calls.specs.Call.{by_code, request_of, call_of, call_out, call_words, call_block, CallGives}
-use Rattle.calls.specs.declared.Asked.{Asked}  -- keep
-use Rattle.calls.specs.declared.Asked.TheVariants.{Step, Nothing}  -- keep
-
--- a number that is no smaller and another is greater
-pub past : (n code : ℕ) → n ≤ code → (code ≡ n → ⊥) → suc n ≤ code
-past n code h other = omega arith
 
 -- the step x is what some code asks for with some numbers
 abbrev pub HasCode : Request → Type 0
-HasCode x = (code : ℕ) × (a : ℕ) × (b : ℕ) × (c : ℕ) × (request_of code a b c ≡ Step x)
+HasCode x = (code : ℕ) × (a : ℕ) × (b : ℕ) × (c : ℕ) × (request_of code a b c ≡ Some x)
 
 pub each_has_code : (x : Request) → HasCode x
 unfolding request_of
@@ -52,19 +46,19 @@ each_has_code (Send q t) = (18, q, t, 0, refl)
 each_has_code (Receive q t) = (19, q, t, 0, refl)
 each_has_code (Word i n) = (20, i, n, 0, refl)
 
-pub beyond : (code a b c : ℕ) → length (by_code a b c) ≤ code → request_of code a b c ≡ Nothing
+pub beyond : (code a b c : ℕ) → length (by_code a b c) ≤ code → request_of code a b c ≡ None
 unfolding request_of
-beyond code a b c h = get_or-eq_default (by_code a b c) Nothing h
+beyond code a b c h = get_or-eq_default (by_code a b c) None h
 
 -- demand 1 as C meets it: "Every number but 0 and 1 leaves the state unchanged", whatever code, numbers, message, record, words and block are handed in
-pub refused_leaves : (h : Whole) (x : Asked) (m : List ℕ) → Typed h.state → 1 < number_of (call_of h x m).answer → (call_of h x m).whole ≡ h
+pub refused_leaves : (h : Whole) (x : Option Request) (m : List ℕ) → Typed h.state → 1 < number_of (call_of h x m).answer → (call_of h x m).whole ≡ h
 unfolding call_of stays
-refused_leaves h (Step x) m T n = refused_stays h (step_for x m) T n
-refused_leaves h Nothing m T n = refl
+refused_leaves h (Some x) m T n = refused_stays h (step_for x m) T n
+refused_leaves h None m T n = refl
 
 -- a code that names no step, on a record that was tested
 pub malformed_call : (sound : Bool) (h : Whole) (m : List ℕ) → sound ≡ sound_of h → (a : Answer) → a ≡ answer_for 14 0 (standing_by sound h.state)
-    → carried h m (record { state = h.state; answer = a; moves = nothing.Nothing }) ≡ call_of h Nothing m
+    → carried h m (record { state = h.state; answer = a; moves = nothing.Nothing }) ≡ call_of h None m
 unfolding call_of stays standing_in carried
 malformed_call sound h m truth a e = λ i. record { whole = h; answer = (e ∙ ap (λ b. answer_for 14 0 (standing_by b h.state)) truth) i }
 

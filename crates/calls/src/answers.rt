@@ -16,6 +16,7 @@ fn join(number: u8, value: u32, run: u8) -> u64
 }
 
 // An answer in one number, from which each part comes out again.
+#[tactic(auto, unfolding(record::specs::StepRecord::number_of, record::specs::StepRecord::value_of, record::specs::StepRecord::run_of))]
 pub fn answer_code(x: Answer) -> u64
     ensures { Carries result x }
 {

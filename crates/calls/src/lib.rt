@@ -12,18 +12,12 @@ use record::{Plan, Request, State};
 
 pub mod answers;
 
-// What a step's code and its three numbers ask for.
-#[derive(Drop)]
-pub enum Asked {
-    Step { request: Request },
-    Nothing,
-}
-
-// The request of a code; a step takes as many of the numbers as it has, and ignores the rest.
-pub fn request_of(code: u32, a: u32, b: u32, c: u32) -> Asked
+// The request of a code; a step takes as many of the numbers as it has, and ignores the rest. None for a code that is no step's.
+#[tactic(auto, using(crate::specs::CallLaws::beyond), unfolding(crate::specs::Call::request_of))]
+pub fn request_of(code: u32, a: u32, b: u32, c: u32) -> Option<Request>
     ensures { result ≡ request_of code a b c }
 {
-    let request = match code {
+    Some(match code {
         0 => Request::Task { priority: a },
         1 => Request::Mutex { kind: a },
         2 => Request::Sem {
@@ -55,14 +49,13 @@ pub fn request_of(code: u32, a: u32, b: u32, c: u32) -> Asked
         18 => Request::Send { queue: a, time: b },
         19 => Request::Receive { queue: a, time: b },
         20 => Request::Word { task: a, n: b },
-        _ => return Asked::Nothing,
-    };
-    Asked::Step { request: request }
+        _ => return None,
+    })
 }
 
 // What is asked for, on a record that is tested first: 14 for a code that names no step or a send without one to eight words, 15, or its step, before any
 // word is moved. The message beside it has `count` words, the lent block `space`.
-pub fn call(s: State, x: Asked, count: usize, space: usize, words: &[u32]) -> Plan
+pub fn call(s: State, x: Option<Request>, count: usize, space: usize, words: &[u32]) -> Plan
     ensures { (m block : List ℕ) → length m ≡ count → length block ≡ space → carried (whole s words.now block) m result ≡ call_of (whole s words.now block) x m }
 {
     let sound = sound::is_sound(s, words, space);
@@ -74,14 +67,14 @@ pub fn call(s: State, x: Asked, count: usize, space: usize, words: &[u32]) -> Pl
 pub fn tested_call(
     s: State,
     sound: bool,
-    x: Asked,
+    x: Option<Request>,
     count: usize,
     space: usize,
     words: &[u32],
 ) -> Plan
     ensures { (m block : List ℕ) → length m ≡ count → length block ≡ space → Known sound (whole s words.now block) → carried (whole s words.now block) m result ≡ call_of (whole s words.now block) x m }
 {
-    let Asked::Step { request } = x else {
+    let Some(request) = x else {
         let no_step = refused::malformed(s, sound);
         return kernel::stay(s, no_step);
     };

@@ -1,12 +1,12 @@
 -- Laws of one line of a script: what it is answered and what its log line came to are what it comes to; a line that was found, or none; no room.
 use Rattle.std.proofs.Math.Path.{◌≡◌, refl, ap}
-use Rattle.std.proofs.Common.{◌∙◌}
+use Rattle.std.proofs.Common.{sym, ◌∙◌}
 use mathlib.Core.List.{List, [], ◌∷◌}
-use Rattle.std.specs.Prelude.{true, false, ℕ, ◌+◌, ◌≤◌, ◌<◌, eqb, Some, None}
+use Rattle.std.specs.Prelude.{true, false, ℕ, ◌+◌, ◌≤◌, eqb, Some, None, Option as RustOption}
 use Rattle.std.proofs.Math.Logic.{inl, inr}
 use native.Mathlib.Omega.{arith}
 use Rattle.std.proofs.Math.ListN.{length}
-use borrow.Author.Tests.{ne_eqb, eqb-true, le-leb, leb-true}
+use borrow.Author.Tests.{le-leb, leb-true}
 use Rattle.lists.specs.TestLaws.{which, clash, by_test}
 use Rattle.arrive.specs.Arrive.{Arrival}
 use Rattle.arrive.specs.Feed.{found_line, arrivals_of}
@@ -16,42 +16,29 @@ use Rattle.record.specs.StepRecord.{After, stays}
 use Rattle.record.specs.Whole.{Whole}
 use Rattle.record.specs.declared.Answer.{Answer}
 use Rattle.text.specs.Place.{room, put_answer, put_bytes}
-use Rattle.text.specs.Ascii.{ascii}
-use Rattle.words.specs.Form.{same_bytes}
-use Rattle.log_lines.specs.LogLine.{log_bytes, bad_bytes}
-use Rattle.words.specs.Form.{header_bytes}
-use Rattle.script_lines.specs.LineRun.{awaiting, running, line_answered, line_for, head_log, headed, memory_head}
-use Rattle.script.specs.Session.{log_at, line_log, line_whole, line_stage, Taken, room_number, line_taken, taken_memory, step_at, logged_at, line_in, lineb, found_taken, found_memory}
+use Rattle.script_lines.specs.LineRun.{awaiting, running, line_answered, line_for, head_log, head_stage, headed, memory_head}
+use Rattle.script.specs.Session.{log_at, line_log, line_whole, line_stage, Taken, line_taken, taken_memory, step_at, logged_at, line_in, lineb, found_taken, found_memory}
+use Rattle.script_lines.specs.declared.run.Headed.{Headed}
 use Rattle.script.specs.declared.session.Logged.{Logged}
 
--- no log line is empty: the first one
-head_some : (line : List ℕ) → 0 < length (head_log line)
-unfolding head_log log_bytes bad_bytes ascii
-head_some line = by_test {A = List ℕ} (λ l. 0 < length l) (same_bytes line header_bytes) (λ e. omega arith) (λ e. omega arith)
-
-some_number : (n : ℕ) → 0 < n → room_number n ≡ 0
-unfolding room_number
-some_number n h = rw (ne_eqb n 0 (λ z. omega arith))
-
-no_number : room_number 0 ≡ 8
-unfolding room_number
-no_number = refl
+none_some : {A : Type 0} {x : A} → ◌≡◌ {A = RustOption A} None (Some x) → ⊥
+none_some e = let z : ◌≡◌ {A = ℕ} 0 1 = cc in omega arith
 
 -- a log line, by where the script stands
 module _ (stage : ℕ) (a : Answer) (line memory : List ℕ) where
   -- what became of an answer's log line
-  pub answer_logged : eqb stage running ≡ true → (n : ℕ) → put_answer memory 0 (line_for a) ≡ Some n → (record { stage = stage; written = n; number = 0 }) ≡ logged_at stage a line memory
+  pub answer_logged : eqb stage running ≡ true → (n : ℕ) → put_answer memory 0 (line_for a) ≡ Some n → Some (record { stage = stage; written = n }) ≡ logged_at stage a line memory
   unfolding put_answer logged_at line_stage
   answer_logged e n p = elim (which (room memory 0 (line_for a))) [
     | inl r ↦ (
         let z : Some (0 + length (line_for a)) ≡ Some n = rw r at p in
         let y : n ≡ length (line_for a) = (let w : 0 + length (line_for a) ≡ n = cc in omega (arith, w)) in
-        rw (e, r) (λ i. record { stage = stage; written = y i; number = 0 })
+        rw (e, r) (λ i. Some (record { stage = stage; written = y i }))
         )
     | inr r ↦ let z : None ≡ Some n = rw r at p in absurd (let y : ◌≡◌ {A = ℕ} 0 1 = cc in omega arith)
   ]
 
-  pub answer_full : eqb stage running ≡ true → put_answer memory 0 (line_for a) ≡ None → (record { stage = stage; written = 0; number = 8 }) ≡ logged_at stage a line memory
+  pub answer_full : eqb stage running ≡ true → put_answer memory 0 (line_for a) ≡ None → None ≡ logged_at stage a line memory
   unfolding put_answer logged_at
   answer_full e p = elim (which (room memory 0 (line_for a))) [
     | inl r ↦ let z : Some (0 + length (line_for a)) ≡ None = rw r at p in absurd (let y : ◌≡◌ {A = ℕ} 0 1 = cc in omega arith)
@@ -62,26 +49,40 @@ module _ (stage : ℕ) (a : Answer) (line memory : List ℕ) where
   answer_memory e = rw e
 
   -- what `run_header` answers
-  pub header_logged : eqb stage running ≡ false → eqb stage awaiting ≡ true
-      → (record { stage = (headed line memory).stage; written = (headed line memory).written; number = room_number (headed line memory).written }) ≡ logged_at stage a line memory
+  pub header_logged : eqb stage running ≡ false → eqb stage awaiting ≡ true → (h : Headed) → headed line memory ≡ Some h
+      → Some (record { stage = h.stage; written = h.written }) ≡ logged_at stage a line memory
   unfolding headed logged_at line_stage
-  header_logged d e =
-      let full : room_number (length (head_log line)) ≡ 0 = some_number _ (head_some line) in
-      let z : stage ≡ awaiting = eqb-true _ _ e in
-      rw (d, e) (elim (which (room memory 0 (head_log line))) [ inl r ↦ rw (r, full) | inr r ↦ rw (r, z, no_number) ])
+  header_logged d e h is = elim (which (room memory 0 (head_log line))) [
+    | inl r ↦
+        let z : Some (record { stage = head_stage line; written = length (head_log line) }) ≡ Some h = rw r at is in
+        let y : record { stage = head_stage line; written = length (head_log line) } ≡ h = cc in
+        rw (d, e, r) (λ i. Some (record { stage = (sym y i).stage; written = (sym y i).written }))
+    | inr r ↦ let z : None ≡ Some h = rw r at is in absurd (let y : ◌≡◌ {A = ℕ} 0 1 = cc in omega arith)
+  ]
+
+  pub header_full : eqb stage running ≡ false → eqb stage awaiting ≡ true → headed line memory ≡ None → None ≡ logged_at stage a line memory
+  unfolding headed logged_at
+  header_full d e is = elim (which (room memory 0 (head_log line))) [
+    | inl r ↦
+        let z : Some (record { stage = head_stage line; written = length (head_log line) }) ≡ None = rw r at is in
+        absurd (none_some (sym z))
+    | inr r ↦ rw (d, e, r)
+  ]
 
   pub header_memory : eqb stage running ≡ false → eqb stage awaiting ≡ true → memory_head line memory ≡ put_bytes memory 0 (log_at stage a line)
   unfolding memory_head
   header_memory d e = rw (d, e)
 
   -- behind a bad first line
-  pub passed_logged : eqb stage running ≡ false → eqb stage awaiting ≡ false → (record { stage = stage; written = 0; number = 0 }) ≡ logged_at stage a line memory
+  pub passed_logged : eqb stage running ≡ false → eqb stage awaiting ≡ false → Some (record { stage = stage; written = 0 }) ≡ logged_at stage a line memory
   unfolding logged_at line_stage
   passed_logged d e = rw (d, e, le-leb 0 (length memory) (omega arith))
 
   pub passed_memory : eqb stage running ≡ false → eqb stage awaiting ≡ false → memory ≡ put_bytes memory 0 (log_at stage a line)
   unfolding put_bytes
   passed_memory d e = rw (d, e, le-leb 0 (length memory) (omega arith))
+
+pub ruleset log_lines = (answer_logged, answer_full, answer_memory, header_logged, header_full, header_memory, passed_logged, passed_memory)
 
 -- one line: what it is answered, and what its log line came to, are what it comes to
 module _ (k : Whole) (stage : ℕ) (line memory : List ℕ) (o : After) (is : o ≡ line_answered k (step_at stage line)) where
@@ -97,20 +98,24 @@ module _ (k : Whole) (stage : ℕ) (line memory : List ℕ) (o : After) (is : o 
   unfolding taken_memory
   logged_memory = ap (put_bytes memory 0) log_at_lem
 
-  module _ (l : Logged) (so : l ≡ logged_at stage o.answer line memory) where
-    pub logged_taken : l.number ≡ 0 → (record { whole = o.whole; stage = l.stage; written = l.written; number = 0 }) ≡ line_taken k stage line memory
-    unfolding logged_at line_taken
-    logged_taken n = elim (which (room memory 0 (line_log k stage line))) [
-      | inl r ↦ rw (so, log_at_lem, whole_at, r)
-      | inr r ↦ absurd (let z : ◌≡◌ {A = ℕ} 8 0 = rw (so, log_at_lem, r) at n in omega arith)
-    ]
+  pub logged_taken : (l : Logged) → Some l ≡ logged_at stage o.answer line memory → (record { whole = o.whole; stage = l.stage; written = l.written; full = false }) ≡ line_taken k stage line memory
+  unfolding logged_at line_taken
+  logged_taken l so = elim (which (room memory 0 (line_log k stage line))) [
+    | inl r ↦
+        let z : Some l ≡ Some (record { stage = line_stage stage line; written = length (line_log k stage line) }) = rw (log_at_lem, r) at so in
+        let y : l ≡ record { stage = line_stage stage line; written = length (line_log k stage line) } = cc in
+        rw (y, whole_at, r)
+    | inr r ↦ let z : Some l ≡ None = rw (log_at_lem, r) at so in absurd (let y : ◌≡◌ {A = ℕ} 0 1 = cc in omega arith)
+  ]
 
-    pub logged_stopped : (l.number ≡ 0 → ⊥) → (line_taken k stage line memory).number ≡ l.number
-    unfolding logged_at line_taken
-    logged_stopped n = elim (which (room memory 0 (line_log k stage line))) [
-      | inl r ↦ absurd (n (rw (so, log_at_lem, r)))
-      | inr r ↦ rw (so, log_at_lem, r)
-    ]
+  pub logged_stopped : None ≡ logged_at stage o.answer line memory → (line_taken k stage line memory).full ≡ true
+  unfolding logged_at line_taken
+  logged_stopped so = elim (which (room memory 0 (line_log k stage line))) [
+    | inl r ↦
+        let z : None ≡ Some (record { stage = line_stage stage line; written = length (line_log k stage line) }) = rw (log_at_lem, r) at so in
+        absurd (none_some z)
+    | inr r ↦ rw r
+  ]
 
 -- a line's end was found, or none
 module _ (k : Whole) (stage : ℕ) (carry bytes memory : List ℕ) where
@@ -137,19 +142,19 @@ none_found found.Nothing e = refl
 
 -- where there is no room nothing is written
 module _ (k : Whole) (stage : ℕ) (memory : List ℕ) where
-  pub stop_memory : (es : List Arrival) → ((found_taken k stage es memory).number ≡ 0 → ⊥) → found_memory k stage es memory ≡ memory
+  pub stop_memory : (es : List Arrival) → (found_taken k stage es memory).full ≡ true → found_memory k stage es memory ≡ memory
   unfolding found_taken found_memory line_taken taken_memory put_bytes
   stop_memory [] h = refl
   stop_memory (e ∷ es) h = elim (which (room memory 0 (line_log k stage (line_in e)))) [
-    | inl r ↦ absurd ((rw r at h) refl)
+    | inl r ↦ absurd (clash (rw r at h) refl)
     | inr r ↦ rw r
   ]
 
-  pub stop_taken : (es : List Arrival) → ((found_taken k stage es memory).number ≡ 0 → ⊥) → found_taken k stage es memory ≡ record { whole = k; stage = stage; written = 0; number = 8 }
+  pub stop_taken : (es : List Arrival) → (found_taken k stage es memory).full ≡ true → found_taken k stage es memory ≡ record { whole = k; stage = stage; written = 0; full = true }
   unfolding found_taken line_taken
-  stop_taken [] h = absurd (h refl)
+  stop_taken [] h = absurd (clash h refl)
   stop_taken (e ∷ es) h = elim (which (room memory 0 (line_log k stage (line_in e)))) [
-    | inl r ↦ absurd ((rw r at h) refl)
+    | inl r ↦ absurd (clash (rw r at h) refl)
     | inr r ↦ rw r
   ]
 

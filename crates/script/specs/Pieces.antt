@@ -1,5 +1,5 @@
 -- A whole script that arrives in pieces, each with lent memory of its own: the log that is handed out, call by call.
-use Rattle.std.specs.Prelude.{ℕ, ◌*◌, ◌≤◌, List, [], ◌∷◌, ◌++◌, cond, eqb, length, take, drop}
+use Rattle.std.specs.Prelude.{ℕ, ◌*◌, ◌≤◌, List, [], ◌∷◌, ◌++◌, cond, length, take, drop}
 use Rattle.std.proofs.Math.Option.{Option, none, some}
 use Rattle.log_lines.specs.LogLine.{line_room}
 use Rattle.script.specs.Session.{Script, fresh_script, piece_run, end_run, end_memory}
@@ -44,10 +44,10 @@ unfoldable pub underway : Underway → List Piece → Underway
 underway u [] = u
 underway u (p ∷ ps) = underway (onward u p) ps
 
--- the end, asked for with one lent memory after another: the log then, once it is answered 0
+-- the end, asked for with one lent memory after another: the log then, once there was room
 unfoldable pub ended_with : Underway → List (List ℕ) → Option (List ℕ)
 ended_with u [] = none
 ended_with u (memory ∷ more) =
     let m = end_run u.session u.carry memory in
     let log = u.log ++ take m.written (end_memory u.session u.carry memory) in
-    cond (eqb m.number 0) (some log) (ended_with (record { session = m.session; carry = u.carry; left = u.left; log = log }) more)
+    cond m.full (ended_with (record { session = m.session; carry = u.carry; left = u.left; log = log }) more) (some log)

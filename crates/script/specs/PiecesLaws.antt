@@ -1,6 +1,6 @@
 -- The log of a script is its whole log, in whatever pieces its bytes arrive and however much memory is lent: at every moment the log so far, and
 -- what is still to come of the bytes that are left over and those that arrive later, are the whole log.
-use Rattle.std.specs.Prelude.{◌≡◌, eqb, ltb, drop}
+use Rattle.std.specs.Prelude.{◌≡◌, true, false, eqb, ltb, drop}
 use Rattle.std.proofs.Math.Path.{refl, ap, sym}
 use Rattle.std.proofs.Common.{◌∙◌, arith}
 use mathlib.Core.List.{List, [], ◌∷◌, ◌++◌, append-nil, append_assoc, map, flatten}
@@ -9,7 +9,7 @@ use Rattle.std.proofs.Math.Option.{some}
 use Prim.Native.Nat.{ℕ, zero, suc, ◌+◌, ◌≤◌}
 use Rattle.std.proofs.Math.ListN.{length, take, length-append}
 use Rattle.std.proofs.Math.Seq.{length-take-le, take-append-le, take_at}
-use borrow.Author.Tests.{eqb-true, eqb-false, leb-true, leb-false, ltb-true}
+use borrow.Author.Tests.{leb-true, leb-false, ltb-true}
 use Rattle.lists.specs.TestLaws.{which, none_some, some_same}
 use Rattle.arrive.specs.Arrive.{Unended, arrivals, unended_after, finished, arrived}
 use Rattle.arrive.specs.ArriveLaws.{arrivals_append, after_append, arrived_lines}
@@ -77,7 +77,7 @@ module _ (bytes : List ℕ) (later : List (List ℕ)) where
   rest_is x = refl
 
   -- a turn moves a line from what is to come to what is written
-  turn_came : (x : Stand) → x.written ≤ length x.memory → (turn_at bytes x).number ≡ 0 → came_to (length x.carry) bytes later x ≡ came_to (length x.carry) bytes later (stand_at bytes x)
+  turn_came : (x : Stand) → x.written ≤ length x.memory → (turn_at bytes x).full ≡ false → came_to (length x.carry) bytes later x ≡ came_to (length x.carry) bytes later (stand_at bytes x)
   unfolding came_to to_come
   turn_came x fits n =
       let es = line_at bytes x in
@@ -103,12 +103,12 @@ module _ (bytes : List ℕ) (later : List (List ℕ)) where
   unfolding through
   through_came zero x h fits = refl
   through_came (suc fuel) x h fits = elim (which (ltb x.next (length bytes))) [
-    | inl e ↦ elim (which (eqb (turn_at bytes x).number 0)) [
-      | inl n ↦
+    | inl e ↦ elim (which (turn_at bytes x).full) [
+      | inl n ↦ rw (e, n) (stop_came x)
+      | inr n ↦
           let far : length bytes ≤ (stand_at bytes x).next + fuel = omega (arith, turn_next bytes x (ltb-true _ _ e), stand_next bytes x) in
           let rest = through_came fuel (stand_at bytes x) far (turn_fits bytes x fits) in
-          rw (e, n) (turn_came x fits (eqb-true _ _ n) ∙ (rw (stand_size bytes x) at rest))
-      | inr n ↦ rw (e, n) (stop_came x)
+          rw (e, n) (turn_came x fits n ∙ (rw (stand_size bytes x) at rest))
     ]
     | inr e ↦ rw e refl
   ]
@@ -117,9 +117,9 @@ through_size : (fuel : ℕ) (bytes : List ℕ) (x : Stand) → length (through f
 unfolding through
 through_size zero bytes x = refl
 through_size (suc fuel) bytes x = elim (which (ltb x.next (length bytes))) [
-  | inl e ↦ elim (which (eqb (turn_at bytes x).number 0)) [
-    | inl n ↦ rw (e, n) (through_size fuel bytes (stand_at bytes x) ∙ stand_size bytes x)
-    | inr n ↦ rw (e, n) (feed_length x.carry x.session.held bytes x.next)
+  | inl e ↦ elim (which (turn_at bytes x).full) [
+    | inl n ↦ rw (e, n) (feed_length x.carry x.session.held bytes x.next)
+    | inr n ↦ rw (e, n) (through_size fuel bytes (stand_at bytes x) ∙ stand_size bytes x)
   ]
   | inr e ↦ rw e
 ]
@@ -149,8 +149,8 @@ unfolding underway
 calls_came [] u later = refl
 calls_came (p ∷ ps) u later = call_came u p (map (λ q. q.bytes) ps ++ later) ∙ calls_came ps (onward u p) later
 
--- the end writes what is still to come where nothing is left over, or is answered 8 and changes nothing
-last_came : (s : Script) (carry memory : List ℕ) → (end_run s carry memory).number ≡ 0
+-- the end writes what is still to come where nothing is left over, or has no room and changes nothing
+last_came : (s : Script) (carry memory : List ℕ) → (end_run s carry memory).full ≡ false
     → take (end_run s carry memory).written (end_memory s carry memory) ≡ all_log s.whole s.stage (finished (unended_of carry s.held))
 unfolding end_run end_memory left_arrivals
 last_came s carry memory n =
@@ -163,12 +163,12 @@ nothing_left : (u : Underway) → u.left ≡ [] → comes u [] ≡ all_log u.ses
 unfolding comes to_come arrived arrivals unended_after
 nothing_left u e = rw e
 
-end_as_handed_in : (s : Script) (carry memory : List ℕ) (n : (end_run s carry memory).number ≡ 0 → ⊥)
-    → (record { session = s; next = 0; written = 0; number = (end_run s carry memory).number }) ≡ end_run s carry memory
+end_as_handed_in : (s : Script) (carry memory : List ℕ) (n : (end_run s carry memory).full ≡ true)
+    → (record { session = s; next = 0; written = 0; full = true }) ≡ end_run s carry memory
 unfolding end_run
 end_as_handed_in s carry memory n = end_stopped s carry memory (found_taken s.whole s.stage (left_arrivals s.stage carry s.held) memory) refl n
 
-stop_again : (u : Underway) (memory : List ℕ) → ((end_run u.session u.carry memory).number ≡ 0 → ⊥)
+stop_again : (u : Underway) (memory : List ℕ) → (end_run u.session u.carry memory).full ≡ true
     → (record {
       session = (end_run u.session u.carry memory).session;
       carry = u.carry;
@@ -186,10 +186,9 @@ stop_again u memory n =
 ended_came : (more : List (List ℕ)) (u : Underway) (log : List ℕ) → u.left ≡ [] → ended_with u more ≡ some log → log ≡ u.log ++ comes u []
 unfolding ended_with
 ended_came [] u log e h = none_some refl h
-ended_came (memory ∷ more) u log e h = elim (which (eqb (end_run u.session u.carry memory).number 0)) [
-  | inl n ↦
-      sym (some_same (rw n at h)) ∙ ap (λ l. u.log ++ l) (last_came u.session u.carry memory (eqb-true _ _ n) ∙ sym (nothing_left u e))
-  | inr n ↦ ended_came more u log e (ap (λ v. ended_with v more) (sym (stop_again u memory (eqb-false _ _ n))) ∙ (rw n at h))
+ended_came (memory ∷ more) u log e h = elim (which (end_run u.session u.carry memory).full) [
+  | inl n ↦ ended_came more u log e (ap (λ v. ended_with v more) (sym (stop_again u memory n)) ∙ (rw n at h))
+  | inr n ↦ sym (some_same (rw n at h)) ∙ ap (λ l. u.log ++ l) (last_came u.session u.carry memory n ∙ sym (nothing_left u e))
 ]
 
 -- at first, all is still to come
@@ -203,7 +202,7 @@ pub moment_whole : (ps : List Piece) (block carry : List ℕ) (later : List (Lis
     → (underway (starting block carry) ps).log ++ comes (underway (starting block carry) ps) later ≡ whole_log block (flatten (map (λ p. p.bytes) ps ++ later))
 moment_whole ps block carry later size = sym (calls_came ps (starting block carry) later) ∙ starting_comes block carry (map (λ p. p.bytes) ps ++ later) size
 
--- so once nothing is left over and the end is answered 0, the log is the whole log, however the bytes arrived and whatever memory was lent
+-- so once nothing is left over and the end had room, the log is the whole log, however the bytes arrived and whatever memory was lent
 pub pieces_whole : (ps : List Piece) (ends : List (List ℕ)) (block carry log : List ℕ) → length carry ≡ longest
     → (underway (starting block carry) ps).left ≡ [] → ended_with (underway (starting block carry) ps) ends ≡ some log
     → log ≡ whole_log block (flatten (map (λ p. p.bytes) ps))

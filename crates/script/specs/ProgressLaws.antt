@@ -1,5 +1,5 @@
 -- A session that is lent room goes on: 33 bytes are enough for the next line, and 33 bytes for each byte of a piece are enough for all of it.
-use Rattle.std.specs.Prelude.{◌≡◌, eqb, ltb, take, drop}
+use Rattle.std.specs.Prelude.{◌≡◌, Bool, false, ltb, take, drop}
 use Rattle.std.proofs.Math.Path.{refl}
 use Rattle.std.proofs.Common.{ap, ◌∙◌, length-drop, drop_of_length-le}
 use mathlib.Core.List.{List, [], ◌∷◌, ◌++◌, map, flatten}
@@ -8,8 +8,8 @@ use Rattle.std.proofs.Math.Option.{some}
 use Prim.Native.Nat.{ℕ, zero, suc, ◌+◌, ◌-◌, ◌*◌, ◌≤◌, ◌<◌}
 use native.Mathlib.Omega.{arith}
 use Rattle.std.proofs.Math.ListN.{length}
-use borrow.Author.Tests.{eq-eqb, eqb-false, lt-ltb, ltb-true, ltb-false}
-use Rattle.lists.specs.TestLaws.{which}
+use borrow.Author.Tests.{lt-ltb, ltb-true, ltb-false}
+use Rattle.lists.specs.TestLaws.{which, clash}
 use Rattle.arrive.specs.FeedLaws.{fed_line, fed_more}
 use Rattle.text.specs.Lines.{lf, line_end}
 use Rattle.text.specs.CutLaws.{up_to_most}
@@ -37,23 +37,23 @@ turn_in bytes x h = elim (which (ltb (line_end bytes x.next) (length bytes))) [
 ]
 
 module _ (bytes : List ℕ) where
-  -- where a piece stops: not before the place from which it goes on, and within the piece; at its end where the number is 0
-  pub record Placed (at next number : ℕ) : Type 0 where
+  -- where a piece stops: not before the place from which it goes on, and within the piece; at its end where it did not stop for want of room
+  pub record Placed (at next : ℕ) (full : Bool) : Type 0 where
     pub from : at ≤ next
     pub within : next ≤ length bytes
-    pub end : number ≡ 0 → next ≡ length bytes
+    pub end : full ≡ false → next ≡ length bytes
 
-  through_placed : (fuel : ℕ) (x : Stand) → length bytes ≤ x.next + fuel → x.next ≤ length bytes → Placed x.next (through fuel bytes x).stand.next (through fuel bytes x).number
+  through_placed : (fuel : ℕ) (x : Stand) → length bytes ≤ x.next + fuel → x.next ≤ length bytes → Placed x.next (through fuel bytes x).stand.next (through fuel bytes x).full
   unfolding through
   through_placed zero x h k = record { from = omega arith; within = k; end = λ n. omega arith }
   through_placed (suc fuel) x h k = elim (which (ltb x.next (length bytes))) [
     | inl e ↦
         let on = turn_next bytes x (ltb-true _ _ e) in
-        elim (which (eqb (turn_at bytes x).number 0)) [
-          | inl n ↦
+        elim (which (turn_at bytes x).full) [
+          | inl n ↦ rw (e, n) (record { from = omega arith; within = k; end = λ z. absurd (clash refl z) })
+          | inr n ↦
               let r = through_placed fuel (stand_at bytes x) (omega (arith, stand_next bytes x)) (omega (arith, stand_next bytes x, turn_in bytes x k)) in
               rw (e, n) (record { from = omega (arith, r.from, stand_next bytes x); within = r.within; end = r.end })
-          | inr n ↦ rw (e, n) (record { from = omega arith; within = k; end = λ z. absurd (eqb-false _ _ n z) })
         ]
     | inr e ↦ let z = ltb-false x.next (length bytes) e in rw e (record { from = omega arith; within = k; end = λ n. omega arith })
   ]
@@ -64,27 +64,27 @@ module _ (bytes : List ℕ) where
   unfolding through
   through_line zero x h k room = absurd (omega arith)
   through_line (suc fuel) x h k room =
-      let n = eq-eqb _ _ (turn_room bytes x (omega arith) room) in
+      let n = turn_room bytes x (omega arith) room in
       let on = turn_next bytes x k in
       let r = through_placed fuel (stand_at bytes x) (omega (arith, stand_next bytes x)) (omega (arith, stand_next bytes x, turn_in bytes x (omega arith))) in
       rw (lt-ltb x.next (length bytes) k, n) (omega (arith, r.from, stand_next bytes x))
 
   -- with room for as many lines as bytes are left all are
-  through_room : (fuel : ℕ) (x : Stand) → x.written + line_room * (length bytes - x.next) ≤ length x.memory → (through fuel bytes x).number ≡ 0
+  through_room : (fuel : ℕ) (x : Stand) → x.written + line_room * (length bytes - x.next) ≤ length x.memory → (through fuel bytes x).full ≡ false
   unfolding through
   through_room zero x room = refl
   through_room (suc fuel) x room = elim (which (ltb x.next (length bytes))) [
     | inl e ↦
         let k : x.next < length bytes = ltb-true _ _ e in
         let fits : x.written ≤ length x.memory = omega arith in
-        let n = eq-eqb _ _ (turn_room bytes x fits (omega arith)) in
+        let n = turn_room bytes x fits (omega arith) in
         rw (e, n) (through_room fuel (stand_at bytes x) (omega (arith, turn_next bytes x k, stand_next bytes x, turn_few bytes x fits, turn_length bytes x fits)))
     | inr e ↦ rw e
   ]
 
 -- a whole piece
 module _ (s : Script) (carry bytes memory : List ℕ) where
-  pub piece_placed : Placed bytes 0 (piece_run s carry bytes memory).stand.next (piece_run s carry bytes memory).number
+  pub piece_placed : Placed bytes 0 (piece_run s carry bytes memory).stand.next (piece_run s carry bytes memory).full
   unfolding piece_run
   piece_placed = through_placed bytes (length bytes) (stand_for s carry memory) (omega arith) (omega arith)
 
@@ -103,12 +103,12 @@ module _ (s : Script) (carry bytes memory : List ℕ) where
       omega (arith, turn_next bytes x h, through_line bytes (length bytes) x (omega arith) h (omega arith))
 
   -- with 33 bytes for each of its bytes it never stops at all
-  pub piece_room : line_room * length bytes ≤ length memory → (piece_run s carry bytes memory).number ≡ 0
+  pub piece_room : line_room * length bytes ≤ length memory → (piece_run s carry bytes memory).full ≡ false
   unfolding piece_run
   piece_room room = through_room bytes (length bytes) (stand_for s carry memory) (omega arith)
 
-  -- and with 33 bytes the end is answered 0
-  pub end_room : line_room ≤ length memory → (end_run s carry memory).number ≡ 0
+  -- and 33 bytes are room for the end
+  pub end_room : line_room ≤ length memory → (end_run s carry memory).full ≡ false
   unfolding end_run
   end_room room = found_fits s.whole s.stage memory (left_arrivals s.stage carry s.held) room
 
@@ -127,7 +127,7 @@ roomy_left (p ∷ ps) u (more_roomy r rs) e =
 roomy_ended : (u : Underway) (last : List ℕ) → line_room ≤ length last
     → ended_with u (last ∷ []) ≡ some (u.log ++ take (end_run u.session u.carry last).written (end_memory u.session u.carry last))
 unfolding ended_with
-roomy_ended u last room = rw (eq-eqb _ _ (end_room u.session u.carry [] last room))
+roomy_ended u last room = rw (end_room u.session u.carry [] last room)
 
 pub roomy_whole : (ps : List Piece) (block carry last : List ℕ) → length carry ≡ longest → AllRoomy ps → line_room ≤ length last
     → ended_with (underway (starting block carry) ps) (last ∷ []) ≡ some (whole_log block (flatten (map (λ p. p.bytes) ps)))

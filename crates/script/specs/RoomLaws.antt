@@ -3,12 +3,12 @@ use Rattle.std.proofs.Math.Path.{◌≡◌, refl, ap, sym}
 use Rattle.std.proofs.Common.{◌∙◌}
 use mathlib.Core.List.{List, [], ◌∷◌, ◌++◌, append-nil}
 use Rattle.std.proofs.Math.Logic.{inl, inr}
-use Rattle.std.specs.Prelude.{ℕ, ◌+◌, ◌≤◌, eqb}
+use Rattle.std.specs.Prelude.{ℕ, ◌+◌, ◌≤◌, eqb, false}
 use native.Mathlib.Omega.{arith}
 use Rattle.std.proofs.Math.ListN.{length, take, drop, length-append, length-drop}
 use Rattle.std.proofs.Math.Seq.{length-take-le, take-append-add}
 use borrow.Author.Tests.{le-leb, leb-true}
-use Rattle.lists.specs.TestLaws.{which, by_test}
+use Rattle.lists.specs.TestLaws.{which, clash, by_test}
 use Rattle.arrive.specs.Arrive.{Arrival}
 use Rattle.arrive.specs.Feed.{arrivals_of}
 use Rattle.arrive.specs.declared.Found.{Found}
@@ -57,7 +57,7 @@ module _ (k : Whole) (stage : ℕ) (memory : List ℕ) where
   found_length (e ∷ es) = length_put memory 0 (line_log k stage (line_in e))
 
   -- `line_room` bytes are enough for a line, which takes no more
-  pub found_fits : (es : List Arrival) → line_room ≤ length memory → (found_taken k stage es memory).number ≡ 0
+  pub found_fits : (es : List Arrival) → line_room ≤ length memory → (found_taken k stage es memory).full ≡ false
   unfolding found_taken line_taken
   found_fits [] h = refl
   found_fits (e ∷ es) h = rw (le-leb (0 + length (line_log k stage (line_in e))) (length memory) (omega (arith, log_room k stage (line_in e)))) refl
@@ -74,7 +74,7 @@ module _ (k : Whole) (stage : ℕ) (memory : List ℕ) where
     pub stage_is : (found_taken k stage es memory).stage ≡ arrivals_stage stage es
     pub log : take (found_taken k stage es memory).written (found_memory k stage es memory) ≡ arrivals_log k stage es
 
-  pub found_stands : (es : List Arrival) → length es ≤ 1 → (found_taken k stage es memory).number ≡ 0 → Stands es
+  pub found_stands : (es : List Arrival) → length es ≤ 1 → (found_taken k stage es memory).full ≡ false → Stands es
   unfolding found_taken found_memory line_taken taken_memory arrivals_whole arrivals_stage arrivals_log
   found_stands [] one n = record { whole = refl; stage_is = refl; log = refl }
   found_stands (e ∷ []) one n = elim (which (room memory 0 (line_log k stage (line_in e)))) [
@@ -84,7 +84,7 @@ module _ (k : Whole) (stage : ℕ) (memory : List ℕ) where
         let front : take (length line) (take 0 memory ++ line ++ drop (0 + length line) memory) ≡ line =
         ap (λ j. take j (take 0 memory ++ line ++ drop (0 + length line) memory)) (let z : length line ≡ 0 + length line = omega arith in z) ∙ take_laid memory 0 line h in
         record { whole = rw r; stage_is = rw r; log = rw (put_laid memory 0 line h, r) (front ∙ sym (append-nil line)) }
-    | inr r ↦ absurd (let z : ◌≡◌ {A = ℕ} 8 0 = rw r at n in omega arith)
+    | inr r ↦ absurd (clash refl (rw r at n))
   ]
   found_stands (e ∷ d ∷ es) one n = absurd (omega arith)
 
@@ -128,11 +128,11 @@ module _ (bytes : List ℕ) (x : Stand) (fits : x.written ≤ length x.memory) w
   unfolding stand_at turn_at turned
   turn_few = omega (arith, found_few x.session.whole x.session.stage (free_of x) (line_at bytes x))
 
-  pub turn_room : x.written + line_room ≤ length x.memory → (turn_at bytes x).number ≡ 0
+  pub turn_room : x.written + line_room ≤ length x.memory → (turn_at bytes x).full ≡ false
   unfolding turn_at turned
   turn_room h = found_fits x.session.whole x.session.stage (free_of x) (line_at bytes x) (omega (arith, length-drop x.written x.memory))
 
-  module _ (n : (turn_at bytes x).number ≡ 0) where
+  module _ (n : (turn_at bytes x).full ≡ false) where
     turn_stands : Stands x.session.whole x.session.stage (free_of x) (line_at bytes x)
     unfolding turn_at turned
     turn_stands = found_stands x.session.whole x.session.stage (free_of x) (line_at bytes x) (one_arrival (carry_at bytes x) bytes (fed_at bytes x).found) n

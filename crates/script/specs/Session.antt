@@ -1,5 +1,5 @@
 -- A script whose bytes arrive in pieces: what each piece comes to, and what stands in all lent memory then.
-use Rattle.std.specs.Prelude.{ℕ, zero, suc, ◌+◌, List, [], ◌∷◌, ◌++◌, Bool, true, false, cond, eqb, ltb, length, take, drop}
+use Rattle.std.specs.Prelude.{ℕ, zero, suc, ◌+◌, List, [], ◌∷◌, ◌++◌, Bool, true, false, Some, None, Option as RustOption, cond, eqb, ltb, length, take, drop}
 use Rattle.std.proofs.Math.Option.{Option, none}
 use Rattle.text.specs.Place.{room, put_bytes}
 use Rattle.arrive.specs.Arrive.{Arrival, Line, Long}
@@ -9,7 +9,6 @@ use Rattle.arrive.specs.declared.Found.{Found}
 use Rattle.arrive.specs.declared.Found.TheVariants as found
 use Rattle.record.specs.DemandRecord.{fresh_record, fresh_with}
 use Rattle.record.specs.Whole.{Whole, whole}
-use Rattle.record.specs.declared.State.{State}
 use Rattle.record.specs.declared.Answer.{Answer}
 use Rattle.rules.specs.Step.{Step}
 use Rattle.words.specs.Form.{step_on}
@@ -52,19 +51,19 @@ line_whole h stage line = cond (eqb stage running) (line_answered h (step_on lin
 unfoldable pub line_stage : ℕ → List ℕ → ℕ
 line_stage stage line = cond (eqb stage running) stage (cond (eqb stage awaiting) (head_stage line) stage)
 
--- what one line came to: the record, where the script stands, how many bytes of log were written, and 0, or 8 where there was no room for them
+-- what one line came to: the record, where the script stands, how many bytes of log were written, and whether there was no room for them
 pub record Taken : Type 0 where
   pub whole : Whole
   pub stage : ℕ
   pub written : ℕ
-  pub number : ℕ
+  pub full : Bool
 
--- one line with lent memory: taken where its log line has room; else nothing is done, and the number is the log's 8
+-- one line with lent memory: taken where its log line has room; else nothing is done: the log's 8
 unfoldable pub line_taken : Whole → ℕ → List ℕ → List ℕ → Taken
 line_taken h stage line memory =
     cond (room memory 0 (line_log h stage line))
-    (record { whole = line_whole h stage line; stage = line_stage stage line; written = length (line_log h stage line); number = 0 })
-    (record { whole = h; stage = stage; written = 0; number = 8 })
+    (record { whole = line_whole h stage line; stage = line_stage stage line; written = length (line_log h stage line); full = false })
+    (record { whole = h; stage = stage; written = 0; full = true })
 
 -- the lent memory then
 unfoldable pub taken_memory : Whole → ℕ → List ℕ → List ℕ → List ℕ
@@ -75,15 +74,9 @@ taken_memory h stage line memory = put_bytes memory 0 (line_log h stage line)
 unfoldable pub step_at : ℕ → List ℕ → Option Step
 step_at stage line = cond (eqb stage running) (step_on line) none
 
-unfoldable pub logged_at : ℕ → Answer → List ℕ → List ℕ → Logged
+unfoldable pub logged_at : ℕ → Answer → List ℕ → List ℕ → RustOption Logged
 logged_at stage a line memory =
-    cond (room memory 0 (log_at stage a line))
-    (record { stage = line_stage stage line; written = length (log_at stage a line); number = 0 })
-    (record { stage = stage; written = 0; number = 8 })
-
--- the log's 8 where nothing was written: no log line is empty
-unfoldable pub room_number : ℕ → ℕ
-room_number written = cond (eqb written 0) 8 0
+    cond (room memory 0 (log_at stage a line)) (Some (record { stage = line_stage stage line; written = length (log_at stage a line) })) None
 
 -- an over-long line is neither a step nor the first line, as an empty one is none
 unfoldable pub line_in : Arrival → List ℕ
@@ -99,28 +92,29 @@ lineb found.Nothing = false
 
 -- where one was, its line, and else nothing
 unfoldable pub found_taken : Whole → ℕ → List Arrival → List ℕ → Taken
-found_taken h stage [] memory = record { whole = h; stage = stage; written = 0; number = 0 }
+found_taken h stage [] memory = record { whole = h; stage = stage; written = 0; full = false }
 found_taken h stage (e ∷ es) memory = line_taken h stage (line_in e) memory
 
 unfoldable pub found_memory : Whole → ℕ → List Arrival → List ℕ → List ℕ
 found_memory h stage [] memory = memory
 found_memory h stage (e ∷ es) memory = taken_memory h stage (line_in e) memory
 
--- what a piece, or its bytes up to a line's end, came to: the script then, the place behind what was taken, how many bytes of log were written, and 0 or 8
+-- what a piece, or its bytes up to a line's end, came to: the script then, the place behind what was taken, how many bytes of log were written, and whether
+-- a line had no room for its log line: the log's 8
 pub record Turn : Type 0 where
   pub session : Script
   pub next : ℕ
   pub written : ℕ
-  pub number : ℕ
+  pub full : Bool
 
 -- what is handed back of it
 abbrev pub moved_of : Turn → Moved
-moved_of t = record { session = session_of t.session; next = t.next; written = t.written; number = t.number }
+moved_of t = record { session = session_of t.session; next = t.next; written = t.written; full = t.full }
 
 -- the bytes up to a line's end, and the line that ends there
 abbrev pub turn_with : Fed → Taken → Turn
 turn_with f t =
-    record { session = record { whole = t.whole; stage = t.stage; held = f.held }; next = f.next; written = t.written; number = t.number }
+    record { session = record { whole = t.whole; stage = t.stage; held = f.held }; next = f.next; written = t.written; full = t.full }
 
 unfoldable pub turned : Script → Fed → List ℕ → List ℕ → List ℕ → Turn
 turned s f carry bytes memory = turn_with f (found_taken s.whole s.stage (arrivals_of carry bytes f.found) memory)
@@ -166,19 +160,18 @@ stand_at bytes x =
 abbrev pub stop_at : List ℕ → Stand → Stand
 stop_at bytes x = record { session = x.session; carry = carry_at bytes x; memory = x.memory; next = x.next; written = x.written }
 
--- how far a piece was taken, and 0, or 8 where it stopped
+-- how far a piece was taken, and whether it stopped for want of room
 pub record Through : Type 0 where
   pub stand : Stand
-  pub number : ℕ
+  pub full : Bool
 
 -- line by line, at most as many as the fuel, up to the piece's end, or to a line whose log line has no room
 unfoldable pub through : ℕ → List ℕ → Stand → Through
-through zero bytes x = record { stand = x; number = 0 }
+through zero bytes x = record { stand = x; full = false }
 through (suc fuel) bytes x =
-    let number = (turn_at bytes x).number in
     cond (ltb x.next (length bytes))
-    (cond (eqb number 0) (through fuel bytes (stand_at bytes x)) (record { stand = stop_at bytes x; number = number }))
-    (record { stand = x; number = 0 })
+    (cond (turn_at bytes x).full (record { stand = stop_at bytes x; full = true }) (through fuel bytes (stand_at bytes x)))
+    (record { stand = x; full = false })
 
 -- a session with nothing written yet
 abbrev pub stand_for : Script → List ℕ → List ℕ → Stand
@@ -188,11 +181,8 @@ stand_for s carry memory = record { session = s; carry = carry; memory = memory;
 unfoldable pub piece_run : Script → List ℕ → List ℕ → List ℕ → Through
 piece_run s carry bytes memory = through (length bytes) bytes (stand_for s carry memory)
 
-abbrev pub moved_with : State → ℕ → ℕ → ℕ → ℕ → ℕ → Moved
-moved_with k stage held next written number = record { session = record { state = k; stage = stage; held = held }; next = next; written = written; number = number }
-
 abbrev pub moved_to : Through → Moved
-moved_to t = record { session = session_of t.stand.session; next = t.stand.next; written = t.stand.written; number = t.number }
+moved_to t = record { session = session_of t.stand.session; next = t.stand.next; written = t.stand.written; full = t.full }
 
 -- nothing more arrives: a last line without LF counts; a script with no line at all has no first line, and is answered as with an empty one
 unfoldable pub last_arrivals : ℕ → List Arrival → List Arrival
@@ -211,10 +201,10 @@ unfoldable pub end_run : Script → List ℕ → List ℕ → Turn
 end_run s carry memory =
     let t = found_taken s.whole s.stage (left_arrivals s.stage carry s.held) memory in
     record {
-      session = record { whole = t.whole; stage = t.stage; held = cond (eqb t.number 0) 0 s.held };
+      session = record { whole = t.whole; stage = t.stage; held = cond t.full s.held 0 };
       next = 0;
       written = t.written;
-      number = t.number;
+      full = t.full;
     }
 
 unfoldable pub end_memory : Script → List ℕ → List ℕ → List ℕ

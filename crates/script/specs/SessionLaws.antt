@@ -1,5 +1,5 @@
 -- Laws of a piece of a script, line by line: one turn of the loop, and the end.
-use Rattle.std.specs.Prelude.{◌≡◌, List, [], ◌++◌, ℕ, zero, suc, ◌+◌, ◌-◌, ◌*◌, ◌≤◌, ◌<◌, leb, ltb, length, replicate, drop}
+use Rattle.std.specs.Prelude.{◌≡◌, Some, None, Option as RustOption, List, [], ◌++◌, ℕ, zero, suc, ◌+◌, ◌-◌, ◌*◌, ◌≤◌, ◌<◌, leb, ltb, length, replicate, drop}
 use Rattle.std.proofs.Math.Path.{refl, ap, sym}
 use Rattle.std.proofs.Common.{◌∙◌, append-nil, drop_of_length-le, take_all}
 use Rattle.std.proofs.Math.Bool.{true, false, cond}
@@ -7,7 +7,7 @@ use Rattle.std.proofs.Math.Logic.{inl, inr}
 use native.Mathlib.Omega.{arith}
 use Rattle.std.proofs.Math.Dec.{eqb}
 use Rattle.std.proofs.Math.ListN.{take, take-append-drop, length-drop}
-use borrow.Author.Tests.{eq-eqb, ne_eqb, lt-ltb, le-ltb, ltb-true, ltb-false}
+use borrow.Author.Tests.{lt-ltb, le-ltb, ltb-true, ltb-false}
 use Rattle.lists.specs.TestLaws.{which, clash, by_test}
 use Rattle.arrive.specs.Arrive.{Arrival}
 use Rattle.arrive.specs.Feed.{line_found, fed, found_line, arrivals_of, last_found}
@@ -46,26 +46,26 @@ through_more : (fuel : ℕ) (bytes : List ℕ) (x : Stand) → length bytes ≤ 
 unfolding through
 through_more zero bytes x h = rw (le-ltb x.next (length bytes) (omega arith))
 through_more (suc fuel) bytes x h = elim (which (ltb x.next (length bytes))) [
-  | inl e ↦ elim (which (eqb (turn_at bytes x).number 0)) [
-    | inl n ↦ rw (e, n) (through_more fuel bytes (stand_at bytes x) (omega (arith, turn_next bytes x (ltb-true _ _ e), stand_next bytes x)))
-    | inr n ↦ rw (e, n)
+  | inl e ↦ elim (which (turn_at bytes x).full) [
+    | inl n ↦ rw (e, n)
+    | inr n ↦ rw (e, n) (through_more fuel bytes (stand_at bytes x) (omega (arith, turn_next bytes x (ltb-true _ _ e), stand_next bytes x)))
   ]
   | inr e ↦ rw e
 ]
 
 module _ (bytes : List ℕ) (x : Stand) where
   -- one turn
-  through_turn : x.next < length bytes → (turn_at bytes x).number ≡ 0 → through (length bytes) bytes x ≡ through (length bytes) bytes (stand_at bytes x)
+  through_turn : x.next < length bytes → (turn_at bytes x).full ≡ false → through (length bytes) bytes x ≡ through (length bytes) bytes (stand_at bytes x)
   unfolding through
-  through_turn h n = sym (through_more (length bytes) bytes x (omega arith)) ∙ rw (lt-ltb x.next (length bytes) h, eq-eqb _ _ n) refl
+  through_turn h n = sym (through_more (length bytes) bytes x (omega arith)) ∙ rw (lt-ltb x.next (length bytes) h, n) refl
 
   -- a line without room
-  through_stop : x.next < length bytes → ((turn_at bytes x).number ≡ 0 → ⊥) → through (length bytes) bytes x ≡ record { stand = stop_at bytes x; number = (turn_at bytes x).number }
+  through_stop : x.next < length bytes → (turn_at bytes x).full ≡ true → through (length bytes) bytes x ≡ record { stand = stop_at bytes x; full = true }
   unfolding through
-  through_stop h n = sym (through_more (length bytes) bytes x (omega arith)) ∙ rw (lt-ltb x.next (length bytes) h, ne_eqb _ _ n) refl
+  through_stop h n = sym (through_more (length bytes) bytes x (omega arith)) ∙ rw (lt-ltb x.next (length bytes) h, n) refl
 
   -- no byte is left
-  pub through_end : length bytes ≤ x.next → through (length bytes) bytes x ≡ record { stand = x; number = 0 }
+  pub through_end : length bytes ≤ x.next → through (length bytes) bytes x ≡ record { stand = x; full = false }
   unfolding through
   through_end h = sym (through_more (length bytes) bytes x (omega arith)) ∙ rw (le-ltb x.next (length bytes) h) refl
 
@@ -90,7 +90,7 @@ pub rest_back : (l : List ℕ) (w : ℕ) (m : List ℕ) → take w l ++ (m ++ dr
 rest_back l w m = rw (rest_none l w) (ap (λ z. take w l ++ z) (append-nil m))
 
 -- a line that was found, answered and logged, as the loop goes
-pub record Run (bytes : List ℕ) (x : Stand) (f : Fed) (c line : List ℕ) (o : After) (l : Logged) : Type 0 where
+pub record Run (bytes : List ℕ) (x : Stand) (f : Fed) (c line : List ℕ) (o : After) (l : RustOption Logged) : Type 0 where
   pub cut : f ≡ fed_at bytes x
   pub carried : c ≡ carry_at bytes x
   pub ended : lineb f.found ≡ true
@@ -99,28 +99,28 @@ pub record Run (bytes : List ℕ) (x : Stand) (f : Fed) (c line : List ℕ) (o :
   pub logged : l ≡ logged_at x.session.stage o.answer line (free_of x)
 
 -- one turn of the loop: what stands then, and what is left to do, is what was to do before it
-module _ (bytes : List ℕ) (x : Stand) (f : Fed) (c line : List ℕ) (o : After) (l : Logged) (r : Run bytes x f c line o l) where
+module _ (bytes : List ℕ) (x : Stand) (f : Fed) (c line : List ℕ) (o : After) (got : RustOption Logged) (r : Run bytes x f c line o got) where
   run_found : line_taken x.session.whole x.session.stage line (free_of x) ≡ found_taken x.session.whole x.session.stage (arrivals_of c bytes f.found) (free_of x)
   run_found =
       ap (λ z. line_taken x.session.whole x.session.stage z (free_of x)) r.line_is
       ∙ line_taken_lem x.session.whole x.session.stage c bytes (free_of x) f.found r.ended
 
-  run_turn : l.number ≡ 0 → turn_with f (record { whole = o.whole; stage = l.stage; written = l.written; number = 0 }) ≡ turn_at bytes x
+  run_turn : (l : Logged) → got ≡ Some l → turn_with f (record { whole = o.whole; stage = l.stage; written = l.written; full = false }) ≡ turn_at bytes x
   unfolding turn_at
-  run_turn n =
+  run_turn l is =
       turn_same x.session bytes (free_of x) f (fed_at bytes x) c (carry_at bytes x) r.cut r.carried _
-      (logged_taken x.session.whole x.session.stage line (free_of x) o r.answered l r.logged n ∙ run_found)
+      (logged_taken x.session.whole x.session.stage line (free_of x) o r.answered l (sym is ∙ r.logged) ∙ run_found)
 
-  run_number : (l.number ≡ 0 → ⊥) → l.number ≡ (turn_at bytes x).number
+  run_full : got ≡ None → (turn_at bytes x).full ≡ true
   unfolding turn_at
-  run_number n =
-      sym (logged_stopped x.session.whole x.session.stage line (free_of x) o r.answered l r.logged n)
-      ∙ ap (λ (u : Turn). u.number) (turn_same x.session bytes (free_of x) f (fed_at bytes x) c (carry_at bytes x) r.cut r.carried _ run_found)
+  run_full is =
+      sym (ap (λ (u : Turn). u.full) (turn_same x.session bytes (free_of x) f (fed_at bytes x) c (carry_at bytes x) r.cut r.carried _ run_found))
+      ∙ logged_stopped x.session.whole x.session.stage line (free_of x) o r.answered (sym is ∙ r.logged)
 
-  pub run_short : l.number ≡ 0 → x.written ≤ length x.memory → x.written + l.written ≤ length x.memory
+  pub run_short : (l : Logged) → got ≡ Some l → x.written ≤ length x.memory → x.written + l.written ≤ length x.memory
   unfolding turn_at turned
-  run_short n h =
-      let e : l.written ≡ (found_taken x.session.whole x.session.stage (line_at bytes x) (free_of x)).written = ap (λ (u : Turn). u.written) (run_turn n) in
+  run_short l is h =
+      let e : l.written ≡ (found_taken x.session.whole x.session.stage (line_at bytes x) (free_of x)).written = ap (λ (u : Turn). u.written) (run_turn l is) in
       omega (arith, e, found_short x.session.whole x.session.stage (free_of x) (line_at bytes x), length-drop x.written x.memory)
 
   module _ (more : x.next < length bytes) (m : List ℕ) (v : m ≡ take x.written x.memory ++ put_bytes (free_of x) 0 (log_at x.session.stage o.answer line)) where
@@ -132,24 +132,24 @@ module _ (bytes : List ℕ) (x : Stand) (f : Fed) (c line : List ℕ) (o : After
         (logged_memory k stage line (free_of x) o r.answered ∙ ap (λ z. taken_memory k stage z (free_of x)) r.line_is ∙ line_memory k stage c bytes (free_of x) f.found r.ended) in
         v ∙ ap (λ z. take x.written x.memory ++ z) put
 
-    pub run_again : l.number ≡ 0
+    pub run_again : (l : Logged) → got ≡ Some l
         → through (length bytes) bytes (record { session = record { whole = o.whole; stage = l.stage; held = f.held }; carry = c; memory = m; next = f.next; written = x.written + l.written })
         ≡ through (length bytes) bytes x
     unfolding stand_at
-    run_again n =
-        let t = run_turn n in
+    run_again l is =
+        let t = run_turn l is in
         (λ i. through (length bytes) bytes (record { session = (t i).session; carry = r.carried i; memory = run_memory i; next = (t i).next; written = x.written + (t i).written }))
-        ∙ sym (through_turn bytes x more (sym (ap (λ (w : Turn). w.number) t)))
+        ∙ sym (through_turn bytes x more (sym (ap (λ (w : Turn). w.full) t)))
 
-    pub run_stopped : (l.number ≡ 0 → ⊥)
-        → (record { stand = record { session = x.session; carry = c; memory = m; next = x.next; written = x.written }; number = l.number }) ≡ through (length bytes) bytes x
+    pub run_stopped : got ≡ None
+        → (record { stand = record { session = x.session; carry = c; memory = m; next = x.next; written = x.written }; full = true }) ≡ through (length bytes) bytes x
     unfolding turn_at turned
-    run_stopped n =
-        let other : (turn_at bytes x).number ≡ 0 → ⊥ = λ z. n (run_number n ∙ z) in
+    run_stopped is =
+        let full = run_full is in
         let same : m ≡ x.memory =
-        run_memory ∙ ap (λ z. take x.written x.memory ++ z) (stop_memory x.session.whole x.session.stage (free_of x) (line_at bytes x) other) ∙ take-append-drop x.written x.memory in
-        (λ i. record { stand = record { session = x.session; carry = r.carried i; memory = same i; next = x.next; written = x.written }; number = run_number n i })
-        ∙ sym (through_stop bytes x more other)
+        run_memory ∙ ap (λ z. take x.written x.memory ++ z) (stop_memory x.session.whole x.session.stage (free_of x) (line_at bytes x) full) ∙ take-append-drop x.written x.memory in
+        (λ i. record { stand = record { session = x.session; carry = r.carried i; memory = same i; next = x.next; written = x.written }; full = true })
+        ∙ sym (through_stop bytes x more full)
 
 -- a turn goes on
 pub cut_on : (bytes : List ℕ) (x : Stand) (f : Fed) → f ≡ fed_at bytes x → x.next < length bytes → x.next < f.next
@@ -177,7 +177,7 @@ module _ (bytes : List ℕ) (x : Stand) (more : x.next < length bytes) (f : Fed)
   no_line : lineb (fed_at bytes x).found ≡ false
   no_line = sym (ap (λ (g : Fed). lineb g.found) cut) ∙ no
 
-  held_turn : turn_at bytes x ≡ turn_with (fed_at bytes x) (record { whole = x.session.whole; stage = x.session.stage; written = 0; number = 0 })
+  held_turn : turn_at bytes x ≡ turn_with (fed_at bytes x) (record { whole = x.session.whole; stage = x.session.stage; written = 0; full = false })
   unfolding turn_at turned found_taken
   held_turn = rw (none_found (fed_at bytes x).found no_line)
 
@@ -185,7 +185,7 @@ module _ (bytes : List ℕ) (x : Stand) (more : x.next < length bytes) (f : Fed)
   unfolding found_memory
   held_memory = rw (none_found (fed_at bytes x).found no_line) (take-append-drop x.written x.memory)
 
-  pub run_held : (record { stand = record { session = record { whole = x.session.whole; stage = x.session.stage; held = f.held }; carry = c; memory = x.memory; next = f.next; written = x.written }; number = 0 })
+  pub run_held : (record { stand = record { session = record { whole = x.session.whole; stage = x.session.stage; held = f.held }; carry = c; memory = x.memory; next = f.next; written = x.written }; full = false })
       ≡ through (length bytes) bytes x
   unfolding stand_at
   run_held =
@@ -193,10 +193,10 @@ module _ (bytes : List ℕ) (x : Stand) (more : x.next < length bytes) (f : Fed)
       let nothing : x.written + 0 ≡ x.written = omega arith in
       let stands : stand_at bytes x ≡ after =
       λ i. record { session = (held_turn i).session; carry = carry_at bytes x; memory = held_memory i; next = (held_turn i).next; written = (ap (λ (t : Turn). x.written + t.written) held_turn ∙ nothing) i } in
-      sym (through_turn bytes x more (ap (λ (t : Turn). t.number) held_turn)
+      sym (through_turn bytes x more (ap (λ (t : Turn). t.full) held_turn)
       ∙ ap (through (length bytes) bytes) stands
       ∙ through_end bytes after (none_end x.carry x.session.held bytes x.next no_line)
-      ∙ (λ i. record { stand = record { session = record { whole = x.session.whole; stage = x.session.stage; held = (sym cut i).held }; carry = sym carried i; memory = x.memory; next = (sym cut i).next; written = x.written }; number = 0 }))
+      ∙ (λ i. record { stand = record { session = record { whole = x.session.whole; stage = x.session.stage; held = (sym cut i).held }; carry = sym carried i; memory = x.memory; next = (sym cut i).next; written = x.written }; full = false }))
 
 -- the end of a script: by what was left of it
 module _ (stage : ℕ) (carry : List ℕ) (held : ℕ) where
@@ -235,30 +235,29 @@ one_left stage carry held = one_last stage carry (last_found carry held)
 
 -- the end: what was left was taken, or had no room
 module _ (s : Script) (carry memory : List ℕ) (t : Taken) (is : t ≡ found_taken s.whole s.stage (left_arrivals s.stage carry s.held) memory) where
-  pub end_taken : t.number ≡ 0
-      → (record { session = record { whole = t.whole; stage = t.stage; held = 0 }; next = 0; written = t.written; number = 0 }) ≡ end_run s carry memory
+  pub end_taken : t.full ≡ false
+      → (record { session = record { whole = t.whole; stage = t.stage; held = 0 }; next = 0; written = t.written; full = false }) ≡ end_run s carry memory
   unfolding end_run
   end_taken n =
-      (λ i. record { session = record { whole = t.whole; stage = t.stage; held = sym (held n) i }; next = 0; written = t.written; number = sym n i })
+      (λ i. record { session = record { whole = t.whole; stage = t.stage; held = sym (held n) i }; next = 0; written = t.written; full = sym n i })
       ∙ (λ i. record {
-        session = record { whole = (is i).whole; stage = (is i).stage; held = cond (eqb (is i).number 0) 0 s.held };
+        session = record { whole = (is i).whole; stage = (is i).stage; held = cond (is i).full s.held 0 };
         next = 0;
         written = (is i).written;
-        number = (is i).number;
+        full = (is i).full;
       })
     where
-      held : t.number ≡ 0 → cond (eqb t.number 0) 0 s.held ≡ 0
+      held : t.full ≡ false → cond t.full s.held 0 ≡ 0
       held n = rw n
 
-  pub end_stopped : (t.number ≡ 0 → ⊥) → (record { session = s; next = 0; written = 0; number = t.number }) ≡ end_run s carry memory
+  pub end_stopped : t.full ≡ true → (record { session = s; next = 0; written = 0; full = true }) ≡ end_run s carry memory
   unfolding end_run
   end_stopped n =
       let es = left_arrivals s.stage carry s.held in
-      let other : (found_taken s.whole s.stage es memory).number ≡ 0 → ⊥ = λ z. n (ap (λ (w : Taken). w.number) is ∙ z) in
-      rw (is, stop_taken s.whole s.stage memory es other)
+      rw (stop_taken s.whole s.stage memory es (sym (ap (λ (w : Taken). w.full) is) ∙ n))
 
 -- nothing was left
 pub end_over : (s : Script) (carry memory : List ℕ) → leftb s.stage s.held ≡ false
-    → ((record { session = record { whole = s.whole; stage = s.stage; held = 0 }; next = 0; written = 0; number = 0 }) ≡ end_run s carry memory) × (memory ≡ end_memory s carry memory)
+    → ((record { session = record { whole = s.whole; stage = s.stage; held = 0 }; next = 0; written = 0; full = false }) ≡ end_run s carry memory) × (memory ≡ end_memory s carry memory)
 unfolding end_run end_memory found_taken found_memory
 end_over s carry memory e = let z = left_over s.stage carry s.held e in (rw z, rw z)

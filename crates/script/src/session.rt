@@ -2,14 +2,13 @@
 ghost use Rattle.std.specs.Prelude.{◌≡◌};
 ghost use Rattle.text.specs.Place.{put_bytes};
 ghost use Rattle.syntax.specs.Line.{line_read};
-ghost use Rattle.script.specs.Session.{fresh_session, script_of, lineb, leftb, step_at, log_at, logged_at, room_number, moved_with, moved_of, moved_to, piece_run, end_run, end_memory};
+ghost use Rattle.script.specs.Session.{fresh_session, script_of, lineb, leftb, step_at, log_at, logged_at, moved_of, moved_to, piece_run, end_run, end_memory};
 
 use arrive::Found;
 use record::{Answer, State};
 use script_lines::run;
 use script_lines::run::{AWAITING, RUNNING};
 use syntax::Line;
-use words::Reading;
 
 // What a script has come to: the record, where it stands, and how many bytes of a line the carry holds. The words that tasks hold, WORDS of them, and the
 // block for queues are lent with each call, the same as the last call left them; at first the words are 0.
@@ -20,25 +19,25 @@ pub struct Session {
     pub held: usize,
 }
 
-// What a piece of the script came to: the session then, the place behind what was taken, and how many bytes of log were written. The number is 0
-// where all was taken, and 8 where the line that begins at `next`, or whose rest does, has no room for its log line: nothing of it is done.
+// What a piece of the script came to: the session then, the place behind what was taken, and how many bytes of log were written. The log memory is
+// full, which is the log's 8, where the line that begins at `next`, or whose rest does, has no room for its log line: nothing of it is done.
 #[derive(Clone, Copy)]
 pub struct Moved {
     pub session: Session,
     pub next: usize,
     pub written: usize,
-    pub number: u8,
+    pub full: bool,
 }
 
-// What a line's log line came to: where the script then stands, how many bytes of log were written, and 0, or 8 where there was no room for them.
+// What a line's log line came to: where the script then stands, and how many bytes of log were written.
 #[derive(Drop)]
 struct Logged {
     stage: u8,
     written: usize,
-    number: u8,
 }
 
 // A script before its first byte.
+#[tactic(auto, unfolding(crate::specs::Session::fresh_session))]
 pub fn begin() -> Session
     ensures { result ≡ fresh_session }
 {
@@ -51,6 +50,7 @@ pub fn begin() -> Session
 }
 
 // Was a line's end found?
+#[tactic(auto, unfolding(crate::specs::Session::lineb))]
 fn is_line(found: Found) -> bool
     ensures { result ≡ lineb found }
 {
@@ -63,82 +63,41 @@ fn is_line(found: Found) -> bool
 }
 
 // The step that a line is. Before a good first line, and after a bad one, no line is a step.
+#[tactic(auto, unfolding(crate::specs::Session::step_at, words::specs::Reading::reading_for, words::specs::Reading::message_on))]
 fn read(stage: u8, line: &[u8]) -> Line
     ensures { result ≡ line_read (step_at stage line.now) }
 {
     if stage == RUNNING {
         return syntax::read_line(line);
     }
-    let message = words::no_message();
     Line {
-        reading: Reading::Malformed,
-        message,
+        reading: None,
+        message: words::no_message(),
     }
 }
 
-// The log's 8 where nothing was written: no log line is empty.
-fn room_number(written: usize) -> u8
-    ensures { result ≡ room_number written }
-{
-    if written == 0 {
-        return 8;
-    }
-    0
-}
-
-// A line's log line: of its answer, or of the first line. A line after a bad first line is passed over.
-fn log_line(stage: u8, a: Answer, line: &[u8], log: &mut [u8]) -> Logged
+// A line's log line: of its answer, or of the first line. None where it has no room. A line after a bad first line is passed over.
+#[tactic(auto, using(crate::specs::LineLaws::log_lines))]
+fn log_line(stage: u8, a: Answer, line: &[u8], log: &mut [u8]) -> Option<Logged>
     ensures answer { result ≡ logged_at stage a line.now log.old }
     ensures memory { log.new ≡ put_bytes log.old 0 (log_at stage a line.now) }
 {
     if stage == RUNNING {
-        let Some(n) = run::log_answer(a, log) else {
-            return Logged {
-                stage: stage,
-                written: 0,
-                number: 8,
-            };
-        };
-        return Logged {
-            stage: stage,
-            written: n,
-            number: 0,
-        };
+        let written = run::log_answer(a, log)?;
+        return Some(Logged { stage, written });
     }
     if stage == AWAITING {
-        let h = run::run_header(line, log);
-        return Logged {
-            stage: h.stage,
-            written: h.written,
-            number: room_number(h.written),
-        };
+        let head = run::run_header(line, log)?;
+        return Some(Logged {
+            stage: head.stage,
+            written: head.written,
+        });
     }
-    Logged {
-        stage: stage,
-        written: 0,
-        number: 0,
-    }
-}
-
-// What a piece or the end came to, put together.
-fn came_to(state: State, stage: u8, held: usize, next: usize, written: usize, number: u8) -> Moved
-    ensures { result ≡ moved_with state stage held next written number }
-{
-    let session = Session {
-        state: state,
-        stage: stage,
-        held: held,
-    };
-    Moved {
-        session: session,
-        next: next,
-        written: written,
-        number: number,
-    }
+    Some(Logged { stage, written: 0 })
 }
 
 // A piece of the script, with lent memory for the log lines of the lines that end in it. A line longer than the carry, which has LONGEST bytes,
-// is answered 14. At a line whose log line has no room it stops with 8, record, words and block as before that line: the caller writes the log, and
+// is answered 14. At a line whose log line has no room it stops, record, words and block as before that line: the caller writes the log, and
 // goes on with the bytes from `next` on, the same carry and more memory. 33 bytes are room for any line.
 // The record is tested once: a line leaves a sound one sound, and one that isn't as it was.
 pub fn arrive(
@@ -155,39 +114,43 @@ pub fn arrive(
     ensures carried { carry.new ≡ (piece_run (script_of session words.old block.old) carry.old bytes.now log.old).stand.carry }
     ensures memory { log.new ≡ (piece_run (script_of session words.old block.old) carry.old bytes.now log.old).stand.memory }
 {
-    let mut state = session.state;
-    let mut stage = session.stage;
-    let mut held = session.held;
-    let mut at = 0;
-    let mut written = 0;
-    let sound = sound::is_sound(state, words, block.len());
-    while at < bytes.len() {
-        let f = arrive::feed(carry, held, bytes, at);
-        let found = f.found;
-        if !is_line(found) {
+    let sound = sound::is_sound(session.state, words, block.len());
+    let mut moved = Moved {
+        session,
+        next: 0,
+        written: 0,
+        full: false,
+    };
+    while moved.next < bytes.len() {
+        let f = arrive::feed(carry, moved.session.held, bytes, moved.next);
+        if !is_line(f.found) {
             // what is left of the piece begins a line
-            return came_to(state, stage, f.held, f.next, written, 0);
+            moved.session.held = f.held;
+            moved.next = f.next;
+            return moved;
         }
-        let line = arrive::line(carry, bytes, found);
-        let r = read(stage, line);
-        let p = run::answer(state, sound, r, block.len(), words);
-        let a = p.answer;
-        let m = p.moves;
-        let l = log_line(stage, a, line, &mut log[written..]);
-        if l.number != 0 {
-            return came_to(state, stage, held, at, written, l.number);
-        }
-        run::make(m, r.message, words, block);
-        state = p.state;
-        stage = l.stage;
-        held = f.held;
-        at = f.next;
-        written = written + l.written;
+        let line = arrive::line(carry, bytes, f.found);
+        let r = read(moved.session.stage, line);
+        let p = run::answer(moved.session.state, sound, r, block.len(), words);
+        let free = &mut log[moved.written..];
+        let Some(l) = log_line(moved.session.stage, p.answer, line, free) else {
+            moved.full = true;
+            return moved;
+        };
+        run::make(p.moves, r.message, words, block);
+        moved.session = Session {
+            state: p.state,
+            stage: l.stage,
+            held: f.held,
+        };
+        moved.next = f.next;
+        moved.written += l.written;
     }
-    came_to(state, stage, held, at, written, 0)
+    moved
 }
 
 // Is a line left when nothing more arrives? A last line without LF; or, where not even a first line came, none, as if it were empty.
+#[tactic(auto, unfolding(crate::specs::Session::leftb))]
 fn is_left(stage: u8, held: usize) -> bool
     ensures { result ≡ leftb stage held }
 {
@@ -197,8 +160,8 @@ fn is_left(stage: u8, held: usize) -> bool
     true
 }
 
-// The end of the script, with lent memory for one log line. Where it has no room the number is 8 and session, words and block are as handed in, for
-// another call with more memory. No bytes are handed in, so `next` is 0.
+// The end of the script, with lent memory for one log line. Where that is full, session, words and block are as handed in, for another call
+// with more memory. No bytes are handed in, so `next` is 0.
 pub fn end(
     session: Session,
     words: &mut [u32],
@@ -211,24 +174,31 @@ pub fn end(
     ensures lent { block.new ≡ (end_run (script_of session words.old block.old) carry.now log.old).session.whole.block }
     ensures memory { log.new ≡ end_memory (script_of session words.old block.old) carry.now log.old }
 {
-    let state = session.state;
-    let stage = session.stage;
-    let held = session.held;
-    if !is_left(stage, held) {
-        return came_to(state, stage, 0, 0, 0, 0);
+    let mut moved = Moved {
+        session,
+        next: 0,
+        written: 0,
+        full: false,
+    };
+    if !is_left(session.stage, session.held) {
+        moved.session.held = 0;
+        return moved;
     }
-    let none = &carry[..0];
-    let found = arrive::finish(carry, held);
-    let line = arrive::line(carry, none, found);
-    let r = read(stage, line);
-    let sound = sound::is_sound(state, words, block.len());
-    let p = run::answer(state, sound, r, block.len(), words);
-    let a = p.answer;
-    let m = p.moves;
-    let l = log_line(stage, a, line, log);
-    if l.number != 0 {
-        return came_to(state, stage, held, 0, 0, l.number);
-    }
-    run::make(m, r.message, words, block);
-    came_to(p.state, l.stage, 0, 0, l.written, 0)
+    let found = arrive::finish(carry, session.held);
+    let line = arrive::line(carry, &carry[..0], found);
+    let r = read(session.stage, line);
+    let sound = sound::is_sound(session.state, words, block.len());
+    let p = run::answer(session.state, sound, r, block.len(), words);
+    let Some(l) = log_line(session.stage, p.answer, line, log) else {
+        moved.full = true;
+        return moved;
+    };
+    run::make(p.moves, r.message, words, block);
+    moved.session = Session {
+        state: p.state,
+        stage: l.stage,
+        held: 0,
+    };
+    moved.written = l.written;
+    moved
 }

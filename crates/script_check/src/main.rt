@@ -39,8 +39,8 @@ fn step(
 // The first line, then each further one.
 fn replay(rt: &impl Print, text: &[u8]) -> io::Result<()> {
     let mut log = [0u8; LINE];
-    let h = run::run_header(reader::first_line(text), &mut log);
-    put(rt, &log, h.written)?;
+    let head = run::run_header(reader::first_line(text), &mut log);
+    put(rt, &log, head.map_or(0, |h| h.written))?;
     let mut words = [0u32; WORDS];
     let mut block = [0u32; BLOCK];
     let mut s = record::fresh();

@@ -23,7 +23,7 @@ fn say(rt: &impl Print, what: &[u8], n: usize) -> io::Result<()> {
 
 // What a call came to, and the whole lent memory then: bytes that were not written are dots.
 fn show(rt: &impl Print, m: Moved, log: &[u8]) -> io::Result<()> {
-    say(rt, b"number ", m.number as usize)?;
+    say(rt, b"number ", if m.full { 8 } else { 0 })?;
     say(rt, b", next ", m.next)?;
     say(rt, b", held ", m.session.held)?;
     say(rt, b", written ", m.written)?;

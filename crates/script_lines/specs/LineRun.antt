@@ -1,9 +1,9 @@
 -- One line run on a record with its words and block, and with lent memory for its log line: what comes back for every record, every line and every length.
-use Rattle.std.specs.Prelude.{ℕ, List, Bool, cond, length, take}
+use Rattle.std.specs.Prelude.{ℕ, List, Bool, Some, None, Option as RustOption, cond, length, take}
 use Rattle.std.proofs.Math.Option.{Option, none, some}
 use Rattle.text.specs.Place.{room, put_bytes}
 use Rattle.rules.specs.Step.{Step}
-use Rattle.record.specs.Whole.{Whole, whole}
+use Rattle.record.specs.Whole.{Whole}
 use Rattle.record.specs.StepRecord.{step_for, answer_for, number_of, value_of, run_of, After, stays, standing_by, standing_in, step_by}
 use Rattle.record.specs.declared.State.{State}
 use Rattle.record.specs.declared.Answer.{Answer}
@@ -13,8 +13,7 @@ use Rattle.words.specs.Form.{same_bytes, step_on}
 use Rattle.log_lines.specs.LogLine.{line_bytes, log_bytes, bad_bytes}
 use Rattle.words.specs.Form.{header_bytes}
 use Rattle.words.specs.declared.Message.{Message}
-use Rattle.words.specs.declared.Reading.{Reading}
-use Rattle.words.specs.declared.Reading.TheVariants.{Made, Malformed}
+use Rattle.record.specs.declared.Request.{Request}
 use Rattle.syntax.specs.declared.Line.{Line}
 use Rattle.script_lines.specs.declared.run.Ran.{Ran}
 use Rattle.script_lines.specs.declared.run.Headed.{Headed}
@@ -25,18 +24,18 @@ line_answered h none = stays h 14 0 (standing_in h)
 line_answered h (some x) = step_by h x
 
 -- the step that was read of a line, with its message
-unfoldable pub step_read : Reading → List ℕ → Option Step
-step_read Malformed m = none
-step_read (Made x) m = some (step_for x m)
+unfoldable pub step_read : RustOption Request → List ℕ → Option Step
+step_read None m = none
+step_read (Some x) m = some (step_for x m)
 
 -- a message's words: as many as it says it has
 abbrev pub message_words : Message → List ℕ
 message_words m = take m.n m.words
 
 -- what is planned for what was read of a line, `sound` being what the test said of the record, and `count` the words of the message
-unfoldable pub plan_read : Bool → State → List ℕ → ℕ → ℕ → Reading → Plan
-plan_read sound k words space count Malformed = unmoved k (answer_for 14 0 (standing_by sound k))
-plan_read sound k words space count (Made x) = planned sound k x count space words
+unfoldable pub plan_read : Bool → State → List ℕ → ℕ → ℕ → RustOption Request → Plan
+plan_read sound k words space count None = unmoved k (answer_for 14 0 (standing_by sound k))
+plan_read sound k words space count (Some x) = planned sound k x count space words
 
 abbrev pub line_planned : Bool → State → List ℕ → ℕ → Line → Plan
 line_planned sound k words space l = plan_read sound k words space l.message.n l.reading
@@ -88,11 +87,9 @@ head_log line = cond (same_bytes line header_bytes) log_bytes bad_bytes
 unfoldable pub head_stage : List ℕ → ℕ
 head_stage line = cond (same_bytes line header_bytes) running over
 
--- "so too for the lines `log` and `bad`": at the front of the lent memory, and where there is no room nothing is done
-unfoldable pub headed : List ℕ → List ℕ → Headed
-headed line memory = cond (room memory 0 (head_log line))
-    (record { stage = head_stage line; written = length (head_log line) })
-    (record { stage = awaiting; written = 0 })
+-- "so too for the lines `log` and `bad`": at the front of the lent memory, and where there is no room nothing is done: the first line is still awaited
+unfoldable pub headed : List ℕ → List ℕ → RustOption Headed
+headed line memory = cond (room memory 0 (head_log line)) (Some (record { stage = head_stage line; written = length (head_log line) })) None
 
 unfoldable pub memory_head : List ℕ → List ℕ → List ℕ
 memory_head line memory = put_bytes memory 0 (head_log line)

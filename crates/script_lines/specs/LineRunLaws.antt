@@ -1,12 +1,14 @@
 -- Laws of one line run: a line that is a step is a call of demand 3's list; a malformed one changes nothing, and is answered as the rules answer it.
 use Rattle.std.proofs.Math.Path.{◌≡◌, refl, ap}
 use Rattle.std.proofs.Common.{sym, ◌∙◌, arith, leb-false}
-use Rattle.std.specs.Prelude.{List, ◌++◌, Bool, ◌⊎◌, ℕ, ◌+◌, ◌<◌, leb, Some, None}
+use Rattle.std.specs.Prelude.{Option as RustOption, List, ◌++◌, Bool, ◌⊎◌, ℕ, ◌+◌, ◌<◌, leb, Some, None}
 use Rattle.std.proofs.Math.Bool.{true, false, cond}
 use Rattle.std.proofs.Math.Logic.{inl, inr}
 use Rattle.std.proofs.Math.Option.{Option, none, some}
 use Rattle.std.proofs.Math.ListN.{length, drop}
+use Rattle.lists.specs.Test.{◌and◌}
 use Rattle.lists.specs.TestLaws.{which, and_r}
+use Rattle.text.specs.Ascii.{ascii}
 use Rattle.lists.specs.TableLaws.{take_pad}
 use Rattle.text.specs.Place.{room, put_answer, put_bytes}
 use Rattle.rules.specs.Sizes.{held_words}
@@ -31,11 +33,11 @@ use Rattle.words.specs.Form.{same_bytes, step_on}
 use Rattle.log_lines.specs.LogLine.{line_bytes, log_bytes, bad_bytes}
 use Rattle.words.specs.Form.{header_bytes}
 use Rattle.words.specs.Reading.{reading_for, message_on}
-use Rattle.words.specs.declared.Reading.{Reading}
-use Rattle.words.specs.declared.Reading.TheVariants.{Made, Malformed}
+use Rattle.words.specs.SameLaws.{same_equal}
+use Rattle.record.specs.declared.Request.{Request}
 use Rattle.syntax.specs.Line.{line_read}
 use Rattle.syntax.specs.declared.Line.{Line}
-use Rattle.script_lines.specs.LineRun.{awaiting, running, over, line_answered, step_read, message_words, plan_read, line_planned, line_for, Came, came_to, reported, ran_line, memory_line, head_log, head_stage, headed}
+use Rattle.script_lines.specs.LineRun.{running, over, line_answered, step_read, message_words, plan_read, line_planned, line_for, Came, came_to, reported, ran_line, memory_line, head_log, head_stage, headed}
 
 -- the line that reports an answer is the rules' log line of it
 pub line_ruled : (o : After) → line_for o.answer ≡ log_line (read_out o)
@@ -61,10 +63,10 @@ module _ (sound : Bool) (k : State) (words block m : List ℕ) (K : Known sound 
   unfolding carried stays standing_in
   not_read = λ i. record { whole = whole k words block; answer = ap (λ b. answer_for 14 0 (standing_by b k)) K.truth i }
 
-  read_planned : (r : Reading) → carried (whole k words block) m (plan_read sound k words (length block) (length m) r) ≡ line_answered (whole k words block) (step_read r m)
+  read_planned : (r : RustOption Request) → carried (whole k words block) m (plan_read sound k words (length block) (length m) r) ≡ line_answered (whole k words block) (step_read r m)
   unfolding plan_read line_answered step_read
-  read_planned Malformed = not_read
-  read_planned (Made x) = planned_gives sound k words (length block) x (length m) _ refl m block refl refl K
+  read_planned None = not_read
+  read_planned (Some x) = planned_gives sound k words (length block) x (length m) _ refl m block refl refl K
 
 -- so a plan for what was read of a line comes to what the line is answered
 pub plan_answers : (sound : Bool) (k : State) (words : List ℕ) (block : List ℕ) (l : Line) (p : Plan) (o : Option Step) → p ≡ line_planned sound k words (length block) l → l ≡ line_read o
@@ -192,26 +194,26 @@ module _ (h : Whole) (line memory : List ℕ) (o : After) (is : o ≡ line_answe
   unfolding memory_line
   answer_memory = ap (λ p. put_bytes memory 0 (line_for p.answer)) is
 
-pub head_good : (line : List ℕ) → same_bytes line header_bytes ≡ true → (head_log line ≡ log_bytes) × (head_stage line ≡ running)
-unfolding head_log head_stage
+pub head_good : (line : List ℕ) → line ≡ header_bytes → (head_log line ≡ log_bytes) × (head_stage line ≡ running)
+unfolding head_log head_stage same_bytes header_bytes ascii ◌and◌
 head_good line e = (rw e, rw e)
 
-pub head_bad : (line : List ℕ) → same_bytes line header_bytes ≡ false → (head_log line ≡ bad_bytes) × (head_stage line ≡ over)
+pub head_bad : (line : List ℕ) → (line ≡ header_bytes → ⊥) → (head_log line ≡ bad_bytes) × (head_stage line ≡ over)
 unfolding head_log head_stage
-head_bad line e = (rw e, rw e)
+head_bad line other = elim (which (same_bytes line header_bytes)) [ inl e ↦ absurd (other (same_equal line header_bytes e)) | inr e ↦ (rw e, rw e) ]
 
 module _ (line memory : List ℕ) where
-  pub headed_next : (n : ℕ) → put_answer memory 0 (head_log line) ≡ Some n → headed line memory ≡ record { stage = head_stage line; written = n }
+  pub headed_next : (stage n : ℕ) → head_stage line ≡ stage → put_answer memory 0 (head_log line) ≡ Some n → Some (record { stage = stage; written = n }) ≡ headed line memory
   unfolding put_answer headed
-  headed_next n e = elim (which (room memory 0 (head_log line))) [
+  headed_next stage n s e = elim (which (room memory 0 (head_log line))) [
     | inl r ↦
         let z : Some (0 + length (head_log line)) ≡ Some n = rw r at e in
         let y : length (head_log line) ≡ n = (let w : 0 + length (head_log line) ≡ n = cc in omega (arith, w)) in
-        rw r (λ i. record { stage = head_stage line; written = y i })
+        rw r (λ i. Some (record { stage = sym s i; written = sym y i }))
     | inr r ↦ let z : None ≡ Some n = rw r at e in absurd (let y : ◌≡◌ {A = ℕ} 0 1 = cc in omega arith)
   ]
 
-  pub headed_full : put_answer memory 0 (head_log line) ≡ None → headed line memory ≡ record { stage = awaiting; written = 0 }
+  pub headed_full : put_answer memory 0 (head_log line) ≡ None → None ≡ headed line memory
   unfolding put_answer headed
   headed_full e = elim (which (room memory 0 (head_log line))) [
     | inl r ↦ let z : Some (0 + length (head_log line)) ≡ None = rw r at e in absurd (let y : ◌≡◌ {A = ℕ} 0 1 = cc in omega arith)

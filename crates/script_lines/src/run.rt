@@ -9,7 +9,7 @@ use kernel::refused;
 use moves::Move;
 use record::{Answer, EIGHT, Plan, State};
 use syntax::Line;
-use words::{Message, Reading};
+use words::Message;
 
 // Where a script stands: its first line is awaited; steps are run; its first line was bad and nothing more is written.
 pub const AWAITING: u8 = 0;
@@ -17,6 +17,9 @@ pub const AWAITING: u8 = 0;
 pub const RUNNING: u8 = 1;
 
 pub const OVER: u8 = 2;
+
+// A script's first line.
+const HEADER: &[u8] = b"kernel\t1";
 
 // What a line came to: the record handed on, the answer, and how many bytes of the lent memory its log line took.
 #[derive(Drop)]
@@ -40,7 +43,7 @@ pub fn answer(s: State, sound: bool, line: Line, space: usize, words: &[u32]) ->
 {
     let reading = line.reading;
     let count = line.message.n;
-    let Reading::Made(request) = reading else {
+    let Some(request) = reading else {
         let no_step = refused::malformed(s, sound);
         return kernel::stay(s, no_step);
     };
@@ -59,14 +62,9 @@ pub fn make(m: Move, message: Message, words: &mut [u32], block: &mut [u32])
     ensures held { words.new ≡ words_after m words.old (message_words message) block.old }
     ensures memory { block.new ≡ block_after m words.old (message_words message) block.old }
 {
-    let all = message.words;
-    let n = message.n;
-    if EIGHT < n {
-        // never so many are read
-        moves::make(m, words, &all, block);
-        return;
-    }
-    moves::make(m, words, &all[..n], block);
+    // never more than eight are read
+    let n = message.n.min(EIGHT);
+    moves::make(m, words, &message.words[..n], block);
 }
 
 // An answer's log line at the front of the lent memory.
@@ -100,11 +98,10 @@ pub fn run_line(s: State, line: &[u8], words: &mut [u32], block: &mut [u32], log
     let a = p.answer;
     let next = p.state;
     let m = p.moves;
-    let Some(n) = log_answer(a, log) else {
-        let none = refused::without_room(s, sound);
+    let Some(written) = log_answer(a, log) else {
         return Ran {
             state: s,
-            answer: none,
+            answer: refused::without_room(s, sound),
             written: 0,
         };
     };
@@ -112,35 +109,25 @@ pub fn run_line(s: State, line: &[u8], words: &mut [u32], block: &mut [u32], log
     Ran {
         state: next,
         answer: a,
-        written: n,
+        written,
     }
 }
 
-// The script's first line: the log's first line, or `bad`, at the front of the lent memory.
-pub fn run_header(line: &[u8], log: &mut [u8]) -> Headed
+// The script's first line: the log's first line, or `bad`, at the front of the lent memory. None where that has no room: the first line is still awaited.
+pub fn run_header(line: &[u8], log: &mut [u8]) -> Option<Headed>
     ensures answer { result ≡ headed line.now log.old }
     ensures memory { log.new ≡ memory_head line.now log.old }
 {
-    if words::same(line, b"kernel\t1") {
-        let Some(n) = log_lines::write_header(log) else {
-            return Headed {
-                stage: AWAITING,
-                written: 0,
-            };
-        };
-        return Headed {
+    if line == HEADER {
+        let written = log_lines::write_header(log)?;
+        return Some(Headed {
             stage: RUNNING,
-            written: n,
-        };
+            written,
+        });
     }
-    let Some(n) = log_lines::write_bad(log) else {
-        return Headed {
-            stage: AWAITING,
-            written: 0,
-        };
-    };
-    Headed {
+    let written = log_lines::write_bad(log)?;
+    Some(Headed {
         stage: OVER,
-        written: n,
-    }
+        written,
+    })
 }

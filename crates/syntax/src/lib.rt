@@ -7,29 +7,31 @@ ghost use Rattle.words.specs.Form.{words, made_by, step_on};
 ghost use Rattle.syntax.specs.Line.{line_read};
 
 use arrive::LONGEST;
+use record::Request;
 use text::fields::TAB;
 use text::{cut, fields};
-use words::{MOST_NUMBERS, Message, Reading};
+use words::{MOST_NUMBERS, Message};
 
 // What was read of a line.
 #[derive(Clone, Copy)]
 pub struct Line {
-    pub reading: Reading,
+    pub reading: Option<Request>,
     pub message: Message,
 }
 
 // A line that is no step has no message.
+#[tactic(auto, unfolding(words::specs::Reading::reading_for, words::specs::Reading::message_on))]
 fn no_step() -> Line
     ensures { result ≡ line_read none }
 {
-    let message = words::no_message();
     Line {
-        reading: Reading::Malformed,
-        message,
+        reading: None,
+        message: words::no_message(),
     }
 }
 
 // A line's name with all its numbers.
+#[tactic(auto, using(words::specs::MessageLaws::message_made), unfolding(words::specs::Reading::reading))]
 fn read_row(name: &[u8], numbers: &[u32]) -> Line
     ensures { result ≡ line_read (made_by words name.now numbers.now) }
 {
@@ -39,6 +41,7 @@ fn read_row(name: &[u8], numbers: &[u32]) -> Line
 }
 
 // The step that a line is. Each field is cut off where the one before it ends, so that the line is gone through once.
+// The loop goes by fields and not by an index: std cuts no bytes into fields, and an iterator of our own would be no plainer.
 pub fn read_line(line: &[u8]) -> Line
     ensures { result ≡ line_read (step_on line.now) }
 {

@@ -1,15 +1,17 @@
 -- Laws of the message beside a request: it makes the request's step whole, has at most eight words, and is read word by word.
-use Rattle.std.specs.Prelude.{◌≡◌, refl, List, [], ◌∷◌, ◌++◌, true, ℕ, ◌+◌, ◌≤◌, ◌<◌, length, get_or, set, take, drop}
-use Rattle.std.proofs.Common.{ap, sym, ◌∙◌, add-one, arith, length-drop, take_all, take-suc, length-take-le, get_or-drop, leb-true}
+use Rattle.std.specs.Prelude.{◌≡◌, refl, List, [], ◌++◌, true, Some, None, Option as RustOption, ℕ, ◌≤◌, leb, min, length, replicate, take, drop}
+use Rattle.std.proofs.Common.{ap, sym, ◌∙◌, inl, inr, arith, take_all, length-take-le, leb-true, leb-false}
+use Rattle.std.proofs.lemmas.List.{drop-replicate}
 use Rattle.std.proofs.Math.Option.{Option, none, some}
 use Rattle.lists.specs.Table.{pad}
-use Rattle.lists.specs.TableLaws.{pad_snoc}
-use Rattle.lists.specs.TestLaws.{and_r}
+use Rattle.lists.specs.TestLaws.{which, and_r}
 use Rattle.rules.specs.Step.{Step, task, mutex, sem, start, lock, unlock, pend, post, flush, sleep, yield, hold, free, tick, level, outcome, queue, send, receive, word}
 use Rattle.rules.specs.Sizes.{held_words}
 use Rattle.rules.specs.Answer.{is_formed}
 use Rattle.record.specs.StepRecord.{step_for}
 use Rattle.record.specs.DemandRecord.{request_for, message_for}
+use Rattle.record.specs.declared.Request.{Request}  -- keep
+use Rattle.record.specs.declared.Request.TheVariants.{Task, Mutex, Sem, Start, Lock, Unlock, Pend, Post, Flush, Sleep, Yield, Hold, Free, Tick, Level, Outcome, Queue, OwnedQueue, Send, Receive, Word as WordOf}  -- keep
 use Rattle.words.specs.Form.{words, made_by}
 use Rattle.words.specs.Reading.{reading_for, reading, message_on, words_in, message_in, message_with}
 use Rattle.words.specs.Written.{numbers_in}
@@ -97,23 +99,45 @@ message_made n l = by_made (made_by words n l) refl where
   by_made none e = refl
   by_made (some x) e = let r = made_good n l x e in rw (← r.1) (words_message x r.2)
 
--- the words that are read so far, filled up with zeros: one more, and all of them
-module _ (l : List ℕ) (n : ℕ) (h : n ≤ held_words) (k : n ≤ length (drop 2 l)) where
-  pub words_next : n < held_words → n + 2 < length l → set (pad held_words 0 (take n (drop 2 l))) n (get_or l (n + 2) 0) ≡ pad held_words 0 (take (n + 1) (drop 2 l))
-  words_next p q =
-      let d = drop 2 l in
-      let e : length (take n d) ≡ n = length-take-le n d k in
-      let g : get_or l (n + 2) 0 ≡ get_or d n 0 = ap (λ j. get_or l j 0) (omega arith) ∙ sym (get_or-drop 2 l n 0) in
-      let s : take (n + 1) d ≡ take n d ++ (get_or d n 0 ∷ []) = rw add-one (take-suc d n 0 (omega (arith, length-drop 2 l))) in
-      rw (g, s) (ap (λ j. set (pad held_words 0 (take n d)) j (get_or d n 0)) (sym e) ∙ pad_snoc held_words 0 (take n d) (get_or d n 0) (omega (arith, e)))
+-- a request other than a send has no words, and no request none
+pub other_words : (r : RustOption Request) (l : List ℕ) → ((q t : ℕ) → r ≡ Some (Send q t) → ⊥) → message_in r l ≡ []
+unfolding message_in step_for message_for
+other_words None l h = refl
+other_words (Some (Task a)) l h = refl
+other_words (Some (Mutex a)) l h = refl
+other_words (Some (Sem a b)) l h = refl
+other_words (Some Start) l h = refl
+other_words (Some (Lock a b)) l h = refl
+other_words (Some (Unlock a)) l h = refl
+other_words (Some (Pend a b)) l h = refl
+other_words (Some (Post a)) l h = refl
+other_words (Some (Flush a)) l h = refl
+other_words (Some (Sleep a)) l h = refl
+other_words (Some Yield) l h = refl
+other_words (Some Hold) l h = refl
+other_words (Some Free) l h = refl
+other_words (Some Tick) l h = refl
+other_words (Some (Level a)) l h = refl
+other_words (Some (Outcome a)) l h = refl
+other_words (Some (Queue a b)) l h = refl
+other_words (Some (OwnedQueue a b c)) l h = refl
+other_words (Some (Send a b)) l h = absurd (h a b refl)
+other_words (Some (Receive a b)) l h = refl
+other_words (Some (WordOf a b)) l h = refl
 
-  pub words_end : length l ≤ n + 2 → take n (drop 2 l) ≡ words_in l
-  words_end q =
-      let e : length (drop 2 l) ≤ n = omega (arith, length-drop 2 l) in
-      take_all n (drop 2 l) e ∙ sym (take_all held_words (drop 2 l) (omega (arith, e)))
+pub send_words : (q t : ℕ) (l : List ℕ) → message_in (Some (Send q t)) l ≡ words_in l
+unfolding message_in step_for message_for
+send_words q t l = refl
 
-  -- how many they are
-  pub words_count : (m : List ℕ) {w : List ℕ} → w ≡ pad held_words 0 (take n (drop 2 l)) → take n (drop 2 l) ≡ m → record { words = w; n = n } ≡ message_with m
-  words_count m e f =
-      let c : n ≡ length m = sym (length-take-le n (drop 2 l) k) ∙ ap length f in
-      rw (e, f, c)
+pub ruleset sent_words = (other_words, send_words)
+
+-- the words behind the two numbers, as many as there are and at most eight, laid over zeros
+pub words_laid : (d : List ℕ) (n : ℕ) (w : List ℕ) → n ≡ min (length d) held_words → w ≡ take n d → record { words = w ++ drop n (replicate held_words 0); n = n } ≡ message_with (take held_words d)
+unfolding pad
+words_laid d n w h e =
+    let all : take n d ≡ take held_words d = elim (which (leb (length d) held_words)) [
+      | inl s ↦ (let k = leb-true (length d) held_words s in take_all n d (omega arith) ∙ sym (take_all held_words d k))
+      | inr s ↦ (let k = leb-false (length d) held_words s in ap (λ j. take j d) (let z : n ≡ held_words = omega arith in z))
+    ] in
+    let size : n ≡ length (take held_words d) = sym (length-take-le n d (omega arith)) ∙ ap length all in
+    rw (drop-replicate {X = ℕ} n held_words 0, e, all, ← size)

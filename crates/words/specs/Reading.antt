@@ -1,5 +1,5 @@
 -- What reading answers: the request of the step that was read and the message beside it, or that there is none.
-use Rattle.std.specs.Prelude.{List, [], ℕ, length, take, drop}
+use Rattle.std.specs.Prelude.{List, [], ℕ, length, take, drop, Some, None, Option as RustOption}
 use Rattle.std.proofs.Math.Option.{Option, none, some}
 use Rattle.lists.specs.Table.{pad}
 use Rattle.rules.specs.Step.{Step}
@@ -8,24 +8,15 @@ use Rattle.record.specs.StepRecord.{step_for}
 use Rattle.record.specs.DemandRecord.{request_for, message_for}
 use Rattle.words.specs.Form.{words, made_by}
 use Rattle.words.specs.declared.Message.{Message}  -- keep
-use Rattle.words.specs.declared.Reading.{Reading}  -- keep
-use Rattle.words.specs.declared.Reading.TheVariants.{Made, Malformed}  -- keep
+use Rattle.record.specs.declared.Request.{Request}  -- keep
 
-unfoldable pub reading_for : Option Step → Reading
-reading_for none = Malformed
-reading_for (some x) = Made (request_for x)
+unfoldable pub reading_for : Option Step → RustOption Request
+reading_for none = None
+reading_for (some x) = Some (request_for x)
 
 -- the same of a name and its numbers
-unfoldable pub reading : List ℕ → List ℕ → Reading
+unfoldable pub reading : List ℕ → List ℕ → RustOption Request
 reading n l = reading_for (made_by words n l)
-
--- names of at most so many bytes are looked up apart from the longer ones
-abbrev pub short_name : ℕ
-short_name = 4
-
--- and so are words with at most so many numbers
-abbrev pub few_numbers : ℕ
-few_numbers = 1
 
 -- the message of the step that was read: no words where there is no step
 unfoldable pub message_on : Option Step → List ℕ
@@ -37,9 +28,9 @@ abbrev pub words_in : List ℕ → List ℕ
 words_in l = take held_words (drop 2 l)
 
 -- which of the numbers are the message of what was read: a request other than a send has none
-unfoldable pub message_in : Reading → List ℕ → List ℕ
-message_in Malformed l = []
-message_in (Made x) l = message_for (step_for x (words_in l))
+unfoldable pub message_in : RustOption Request → List ℕ → List ℕ
+message_in None l = []
+message_in (Some x) l = message_for (step_for x (words_in l))
 
 -- a message of at most eight words as it is handed on: filled up with zeros, and how many words it has
 abbrev pub message_with : List ℕ → Message

@@ -4,7 +4,6 @@ use mathlib.Core.List.{List, []}
 use mathlib.Core.Bool.{true}
 use mathlib.Core.Option.{Option}
 use Prim.Native.Nat.{ℕ}
-use borrow.Author.Tests.{not-true, not-false}
 use Rattle.text.specs.Place.{put_bytes}
 use Rattle.arrive.specs.Feed.{found_line, last_found}
 use Rattle.moves.specs.Moves.{words_after, block_after}
@@ -71,18 +70,18 @@ answer_is k =
     let K : Known _ h = record { typed = t.types; truth = t.answer h.block refl } in
     plan_answers _ h.state h.words h.block k.read-r.result k.answer-p.result (asked k) k.answer-p.ensures (read_is k) K
 
-logged_is : (k : LoggedLast) → k.log_line-l.result ≡ logged_at (handed k).stage (planned k).answer (last_line k) (memory_in k)
-logged_is k = k.log_line-l.ensures.answer ∙ ap (λ l. logged_at (handed k).stage (planned k).answer l (memory_in k)) k.line-line.ensures
+logged_is : (k : LoggedLast) → k.log_line.result ≡ logged_at (handed k).stage (planned k).answer (last_line k) (memory_in k)
+logged_is k = k.log_line.ensures.answer ∙ ap (λ l. logged_at (handed k).stage (planned k).answer l (memory_in k)) k.line-line.ensures
 
 taken_is : (k : LoggedLast) → line_taken (handed k).whole (handed k).stage (last_line k) (memory_in k) ≡ found_taken (handed k).whole (handed k).stage (left_arrivals (handed k).stage (carry_in k) (handed k).held) (memory_in k)
 taken_is k =
     ap (λ l. line_taken (handed k).whole (handed k).stage l (memory_in k)) (line_is k)
     ∙ left_taken (handed k).stage (carry_in k) (handed k).held (handed k).whole (memory_in k) (left_is k)
 
-memory_is : (k : LoggedLast) → k.log_line-l.new.log ≡ end_memory (handed k) (carry_in k) (memory_in k)
+memory_is : (k : LoggedLast) → k.log_line.new.log ≡ end_memory (handed k) (carry_in k) (memory_in k)
 unfolding end_memory
 memory_is k =
-    k.log_line-l.ensures.memory
+    k.log_line.ensures.memory
     ∙ ap (λ l. put_bytes (memory_in k) 0 (log_at (handed k).stage (planned k).answer l)) k.line-line.ensures
     ∙ logged_memory (handed k).whole (handed k).stage (last_line k) (memory_in k) (planned k) (answer_is k)
     ∙ ap (λ l. taken_memory (handed k).whole (handed k).stage l (memory_in k)) (line_is k)
@@ -94,26 +93,24 @@ returns-then-not-is_left c =
     let s = script_of a.session a.words.now a.block.now in
     let e = sym c.is_left.ensures ∙ c.if-not-is_left.true in
     let over = end_over s a.carry.now a.log.now e in
-    record { answer = c.came_to.ensures ∙ ap moved_of over.0; held = ap (λ (t : Turn). t.session.whole.words) over.0; lent = ap (λ (t : Turn). t.session.whole.block) over.0; memory = over.1 }
+    record { answer = ap moved_of over.0; held = ap (λ (t : Turn). t.session.whole.words) over.0; lent = ap (λ (t : Turn). t.session.whole.block) over.0; memory = over.1 }
 
-pub returns-then-l-ne0 : goal.returns-then-l-ne0
-returns-then-l-ne0 c =
-    let k = c.before.before.before.before.before.before in
-    let l = k.log_line-l.result in
-    let n = logged_stopped (handed k).whole (handed k).stage (last_line k) (memory_in k) (planned k) (answer_is k) l (logged_is k) c.if-l-ne0.true in
-    let stopped = (λ i. record { session = handed k; next = 0; written = 0; number = sym n i }) ∙ end_stopped (handed k) (carry_in k) (memory_in k) _ (taken_is k) (λ z. c.if-l-ne0.true (sym n ∙ z)) in
-    record { answer = c.came_to-then-l-ne0.ensures ∙ ap moved_of stopped; held = ap (λ (t : Turn). t.session.whole.words) stopped; lent = ap (λ (t : Turn). t.session.whole.block) stopped; memory = memory_is k }
+pub returns-in_default : goal.returns-in_default
+returns-in_default c =
+    let k : LoggedLast = c.before.before.before.before in
+    let n = logged_stopped (handed k).whole (handed k).stage (last_line k) (memory_in k) (planned k) (answer_is k) (sym c.in_default.is ∙ logged_is k) in
+    let stopped = end_stopped (handed k) (carry_in k) (memory_in k) _ (taken_is k) n in
+    record { answer = ap moved_of stopped; held = ap (λ (t : Turn). t.session.whole.words) stopped; lent = ap (λ (t : Turn). t.session.whole.block) stopped; memory = memory_is k }
 
 pub returns : goal.returns
 returns c =
-    let k = c.before.before.before.before.before.before.before.before.before.before.before.before.before.before.before in
-    let l = k.log_line-l.result in
+    let k : LoggedLast = c.before.before.before.before.before.before.before.before.before.before.before.before.before in
     let p = k.answer-p.result in
     let h = (handed k).whole in
     let m = c.make in
     let message = ap (λ (z : Line). message_words z.message) (read_is k) ∙ message_back (asked k) in
     let words = m.ensures.held ∙ ap (λ z. words_after p.moves h.words z h.block) message in
     let block = m.ensures.memory ∙ ap (λ z. block_after p.moves h.words z h.block) message in
-    let t = logged_taken h (handed k).stage (last_line k) (memory_in k) (planned k) (answer_is k) l (logged_is k) c.if-l-ne0.false in
+    let t = logged_taken h (handed k).stage (last_line k) (memory_in k) (planned k) (answer_is k) c.in-Some.l (sym c.in-Some.is ∙ logged_is k) in
     let taken = end_taken (handed k) (carry_in k) (memory_in k) _ (t ∙ taken_is k) refl in
-    record { answer = c.came_to-2.ensures ∙ ap moved_of taken; held = words ∙ ap (λ (z : Turn). z.session.whole.words) taken; lent = block ∙ ap (λ (z : Turn). z.session.whole.block) taken; memory = memory_is k }
+    record { answer = ap moved_of taken; held = words ∙ ap (λ (z : Turn). z.session.whole.words) taken; lent = block ∙ ap (λ (z : Turn). z.session.whole.block) taken; memory = memory_is k }

@@ -1,5 +1,5 @@
 -- `run_header`: by the first line and by the room for its log line.
-use mathlib.Core.Path.{ap, sym, ◌∙◌}
+use Rattle.std.proofs.Common.{◌≡◌, ap, sym, ◌∙◌, rules}
 use Rattle.text.specs.Place.{put_answer, put_bytes}
 use Rattle.text.specs.Ascii.{ascii}
 use Rattle.words.specs.Form.{header_bytes}
@@ -7,38 +7,38 @@ use Rattle.script_lines.specs.LineRun.{memory_head}
 use Rattle.script_lines.specs.LineRunLaws.{head_good, head_bad, headed_next, headed_full}
 use Rattle.script_lines.proofs.run.run_header.Goals as goal
 
-pub returns-in_default : goal.returns-in_default
+pub returns-in_err-written : goal.returns-in_err-written
 unfolding memory_head header_bytes ascii
-returns-in_default c =
+returns-in_err-written c =
     let a = c.args in
-    let w = c.write_header in
-    let h = head_good a.line.now (sym c.same.ensures ∙ c.if-same.true) in
-    let put = ap (put_answer a.log.now 0) h.0 ∙ sym w.ensures.answer ∙ c.in_default.is in
-    record { answer = sym (headed_full a.line.now a.log.now put); memory = w.ensures.memory ∙ ap (put_bytes a.log.now 0) (sym h.0) }
+    let w = c.write_header.ensures in
+    let h = head_good a.line.now (let is : a.line.now ≡ header_bytes = search rules in is) in
+    let put = ap (put_answer a.log.now 0) h.0 ∙ sym w.answer ∙ c.in_err-written.was in
+    record { answer = c.from_residual.ensures ∙ headed_full a.line.now a.log.now put; memory = w.memory ∙ ap (put_bytes a.log.now 0) (sym h.0) }
 
-pub returns-then-same : goal.returns-then-same
+pub returns-then-eq : goal.returns-then-eq
 unfolding memory_head header_bytes ascii
-returns-then-same c =
+returns-then-eq c =
     let a = c.args in
-    let w = c.write_header in
-    let h = head_good a.line.now (sym c.same.ensures ∙ c.if-same.true) in
-    let put = ap (put_answer a.log.now 0) h.0 ∙ sym w.ensures.answer ∙ c.in-Some.is in
-    record { answer = sym (headed_next a.line.now a.log.now _ put ∙ (λ i. record { stage = h.1 i; written = c.in-Some.n })); memory = w.ensures.memory ∙ ap (put_bytes a.log.now 0) (sym h.0) }
+    let w = c.write_header.ensures in
+    let h = head_good a.line.now (let is : a.line.now ≡ header_bytes = search rules in is) in
+    let put = ap (put_answer a.log.now 0) h.0 ∙ sym w.answer ∙ c.in_ok-written.was in
+    record { answer = headed_next a.line.now a.log.now _ _ h.1 put; memory = w.memory ∙ ap (put_bytes a.log.now 0) (sym h.0) }
 
-pub returns-in_default-write_bad : goal.returns-in_default-write_bad
+pub returns-in_err-written-2 : goal.returns-in_err-written-2
 unfolding memory_head header_bytes ascii
-returns-in_default-write_bad c =
+returns-in_err-written-2 c =
     let a = c.args in
-    let w = c.write_bad in
-    let h = head_bad a.line.now (sym c.same.ensures ∙ c.if-same.false) in
-    let put = ap (put_answer a.log.now 0) h.0 ∙ sym w.ensures.answer ∙ c.in_default-write_bad.is in
-    record { answer = sym (headed_full a.line.now a.log.now put); memory = w.ensures.memory ∙ ap (put_bytes a.log.now 0) (sym h.0) }
+    let w = c.write_bad.ensures in
+    let h = head_bad a.line.now (λ is. search rules) in
+    let put = ap (put_answer a.log.now 0) h.0 ∙ sym w.answer ∙ c.in_err-written-2.was in
+    record { answer = c.from_residual-in_err-written-2.ensures ∙ headed_full a.line.now a.log.now put; memory = w.memory ∙ ap (put_bytes a.log.now 0) (sym h.0) }
 
 pub returns : goal.returns
 unfolding memory_head header_bytes ascii
 returns c =
     let a = c.args in
-    let w = c.write_bad in
-    let h = head_bad a.line.now (sym c.same.ensures ∙ c.if-same.false) in
-    let put = ap (put_answer a.log.now 0) h.0 ∙ sym w.ensures.answer ∙ c.in-Some-write_bad.is in
-    record { answer = sym (headed_next a.line.now a.log.now _ put ∙ (λ i. record { stage = h.1 i; written = c.in-Some-write_bad.n })); memory = w.ensures.memory ∙ ap (put_bytes a.log.now 0) (sym h.0) }
+    let w = c.write_bad.ensures in
+    let h = head_bad a.line.now (λ is. search rules) in
+    let put = ap (put_answer a.log.now 0) h.0 ∙ sym w.answer ∙ c.in_ok-written-2.was in
+    record { answer = headed_next a.line.now a.log.now _ _ h.1 put; memory = w.memory ∙ ap (put_bytes a.log.now 0) (sym h.0) }

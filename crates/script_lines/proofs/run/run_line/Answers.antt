@@ -25,7 +25,7 @@ returns-in_default c =
     let o = carried h (message_on (step_on a.line.now)) p.result in
     let is = plan_answers _ a.s a.words.now a.block.now _ p.result (step_on a.line.now) p.ensures read K in
     let full = reported_full h o (line_for o.answer) a.log.now (sym w.answer ∙ c.in_default.is) ∙ answer_reported h a.line.now a.log.now o is in
-    let stands = c.without_room-none.ensures ∙ ap (λ b. answer_for 8 0 (standing_by b a.s)) K.truth in record { answer = (λ i. record { state = a.s; answer = stands i; written = 0 }) ∙ ap ran_with full; held = ap (λ (r : Came). r.after.whole.words) full; lent = ap (λ (r : Came). r.after.whole.block) full; memory = w.memory ∙ answer_memory h a.line.now a.log.now o is }
+    let stands = c.without_room.ensures ∙ ap (λ b. answer_for 8 0 (standing_by b a.s)) K.truth in record { answer = (λ i. record { state = a.s; answer = stands i; written = 0 }) ∙ ap ran_with full; held = ap (λ (r : Came). r.after.whole.words) full; lent = ap (λ (r : Came). r.after.whole.block) full; memory = w.memory ∙ answer_memory h a.line.now a.log.now o is }
 
 pub returns : goal.returns
 unfolding carried

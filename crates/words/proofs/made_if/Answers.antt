@@ -1,8 +1,0 @@
--- `made_if`: the test decides.
-use Rattle.words.proofs.made_if.Goals as goal
-
-pub returns-then-fits : goal.returns-then-fits
-returns-then-fits c = rw c.if-fits.true
-
-pub returns : goal.returns
-returns c = rw c.if-fits.false

@@ -1,7 +1,0 @@
--- `number`: past the numbers the list has its default, 0.
-use mathlib.Core.Path.{sym}
-use lib.ListN.{get_or-eq_default}
-use Rattle.words.proofs.number.Goals as goal
-
-pub returns-then-numbers-i : goal.returns-then-numbers-i
-returns-then-numbers-i c = sym (get_or-eq_default c.args.numbers.now 0 c.if-numbers-i.true)
