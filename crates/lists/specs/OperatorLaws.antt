@@ -32,6 +32,15 @@ unfolding ◌or◌
 or_right true b c = refl
 or_right false b c = refl
 
+-- `&&` goes on to its second part only where the first holds
+pub and_on : (a b : Bool) → a ≡ true → (a and b) ≡ b
+unfolding ◌and◌
+and_on a b e = rw e refl
+
+pub and_off : (a b : Bool) → a ≡ false → (a and b) ≡ a
+unfolding ◌and◌
+and_off a b e = rw e refl
+
 pub ruleset operators = (amp_and, bar_or, and_right, or_right)
 
 -- no place yet, and one place more: `fits &= turn`

@@ -29,7 +29,11 @@ pub fn priorities<'a>(priority: &'a [u8; TASKS], used: &'a [u8; TASKS]) -> bool
 {
     let mut fits = true;
     for i in 0..TASKS {
-        fits &= if used[i] == 1 { priority[i] < LEVELS } else { priority[i] == 0 };
+        fits &= if used[i] == 1 {
+            priority[i] < LEVELS
+        } else {
+            priority[i] == 0
+        };
     }
     fits
 }
@@ -103,7 +107,11 @@ fn outcome_fits(kind: u8, outcome: u8) -> bool
     ensures { result ≡ outcome_fits kind outcome }
 {
     let ended = (outcome == GRANTED) | (outcome == TIMED_OUT) | (outcome == FLUSHED);
-    if kind == NO_WAIT { ended } else { outcome == PENDING }
+    if kind == NO_WAIT {
+        ended
+    } else {
+        outcome == PENDING
+    }
 }
 
 // "outcomes 0, 1, 20 or 21, and 1 exactly for waiting tasks"

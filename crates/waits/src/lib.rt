@@ -149,7 +149,7 @@ pub fn any_flag(f: [u8; TASKS]) -> bool
 {
     let mut none = true;
     for i in 0..TASKS {
-        none = flags::both(f[i] != 1, none);
+        none &= f[i] != 1;
     }
     !none
 }

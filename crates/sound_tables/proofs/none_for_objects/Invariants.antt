@@ -8,4 +8,3 @@ use Rattle.sound_tables.proofs.none_for_objects.Given as goal
 
 abbrev pub invariant-loop-i : goal.invariant-loop-i
 invariant-loop-i l = l.none ≡ allb l.i (no_object_at l.wait)
-

@@ -8,4 +8,3 @@ use Rattle.sound_tables.proofs.outcomes.Given as goal
 
 abbrev pub invariant-loop-i : goal.invariant-loop-i
 invariant-loop-i l = l.fits ≡ allb l.i (outcome_fits_at l.wait l.outcome)
-

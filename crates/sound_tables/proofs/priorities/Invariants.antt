@@ -8,4 +8,3 @@ use Rattle.sound_tables.proofs.priorities.Given as goal
 
 abbrev pub invariant-loop-i : goal.invariant-loop-i
 invariant-loop-i l = l.fits ≡ allb l.i (priority_fits_by l.priority l.used)
-

@@ -8,4 +8,3 @@ use Rattle.sound_tables.proofs.unused.Given as goal
 
 abbrev pub invariant-loop-i : goal.invariant-loop-i
 invariant-loop-i l = l.fits ≡ allb l.i (unused_by l.column l.used)
-

@@ -20,12 +20,6 @@ levels-init c = (search rules, refl)
 pub waits-init : goal.waits-init
 waits-init c = refl
 
-pub bounds-w-i : goal.bounds-w-i
-bounds-w-i c =
-    let w = c.waiters_of-w.result in
-    let g : length w.ids ≡ places = search rules in
-    omega (arith, items_few w g)
-
 pub waits-preserved : goal.waits-preserved
 waits-preserved c =
     let a = c.args in

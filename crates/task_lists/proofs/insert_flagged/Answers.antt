@@ -13,12 +13,6 @@ use Rattle.task_lists.proofs.insert_flagged.Goals.{then-key_in-eq1, else-key_in-
 pub loop-i-init : goal.loop-i-init
 loop-i-init c = refl
 
-pub bounds-order-i : goal.bounds-order-i
-bounds-order-i c =
-    let q = c.args.order in
-    let g : length q.ids ≡ places = search rules in
-    omega (arith, items_few q g)
-
 pub loop-i-preserved : goal.loop-i-preserved
 loop-i-preserved c =
     let a = c.args in

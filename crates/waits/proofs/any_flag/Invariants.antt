@@ -10,7 +10,4 @@ abbrev pub no_one : List ℕ → ℕ → Bool
 no_one f j = not (eqb (get_or f j 0) 1)
 
 abbrev pub invariant-loop-i : goal.invariant-loop-i
-invariant-loop-i l = (l.i ≤ task_places) × (l.none ≡ allb l.i (no_one l.f))
-
-abbrev pub decreases-loop-i : goal.decreases-loop-i
-decreases-loop-i l = task_places - l.i
+invariant-loop-i l = l.none ≡ allb l.i (no_one l.f)
