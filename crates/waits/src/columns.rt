@@ -16,7 +16,7 @@ pub fn cleared(column: [u8; TASKS], flags: &[u8; TASKS]) -> [u8; TASKS]
     r
 }
 
-// The same for due times.
+// The same for due times; not one function over both element types, since the clause's `put_flagged` is of tables of numbers.
 pub fn times_cleared(column: [u32; TASKS], flags: &[u8; TASKS]) -> [u32; TASKS]
     ensures { result ≡ put_flagged flags.now (λ i. 0) column }
 {

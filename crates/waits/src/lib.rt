@@ -1,5 +1,5 @@
 // Waits in the table of tasks: they begin and end, flags name tasks by them, and one waiter is the best.
-#![tactic(auto)]
+#![tactic(auto, using(lists::specs::OperatorLaws::fits_amp, lists::specs::LoopLaws::all_none), unfolding(machine::specs::Machine::any_flag))]
 
 mod columns;
 

@@ -1,8 +1,7 @@
 -- `waits::any_flag` meets its contract. Assumes nothing.
 -- no place below i holds a 1
-use Rattle.std.proofs.Common.{◌≡◌, ◌-◌, ◌≤◌}
+use Rattle.std.proofs.Common.{◌≡◌}
 use Rattle.lists.specs.Test.{allb}
-use Rattle.rules.specs.Sizes.{task_places}
 use Rattle.std.proofs.Common.{List, ℕ, Bool, not, eqb, get_or}
 use Rattle.waits.proofs.any_flag.Given as goal
 
