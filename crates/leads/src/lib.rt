@@ -1,5 +1,5 @@
 // Who leads to whom by what each task waits for, and the levels that follow.
-#![tactic(auto)]
+#![tactic(auto, using(lists::specs::OperatorLaws::operators, lists::specs::OperatorLaws::fits_amp, lists::specs::LoopLaws::all_none))]
 
 ghost use Rattle.std.specs.Prelude.{◌≡◌, cond, not, ltb, eqb, length, get_or};
 ghost use Rattle.lists.specs.Test.{◌or◌, allb};
@@ -61,7 +61,7 @@ fn each_leads<'a>(
 fn leads_nowhere(kind: u8) -> bool
     ensures { result ≡ not (eqb kind on_mutex or eqb kind on_send) }
 {
-    !flags::either(kind == ON_MUTEX, kind == ON_SEND)
+    !((kind == ON_MUTEX) | (kind == ON_SEND))
 }
 
 // Does nobody wait for a mutex or to send? Then nobody leads to anybody.
@@ -70,7 +70,7 @@ pub fn none_waits(wait: &[u8; TASKS]) -> bool
 {
     let mut none = true;
     for i in 0..TASKS {
-        none = flags::both(leads_nowhere(wait[i]), none);
+        none &= leads_nowhere(wait[i]);
     }
     none
 }
@@ -95,10 +95,7 @@ pub fn leads_of<'a>(
 fn heir(kind: u8, owner: u8) -> u8
     ensures { result ≡ heir_by kind owner }
 {
-    if kind != INHERITING {
-        return NONE;
-    }
-    owner
+    if kind == INHERITING { owner } else { NONE }
 }
 
 // Each mutex's heir.

@@ -11,11 +11,7 @@ use task_lists::{LEVELS, PLACES, TaskList};
 fn level_at(levels: &[u8; PLACES], id: u8) -> u8
     ensures { result ≡ level_at levels.now id }
 {
-    let i = id as usize;
-    if i < PLACES {
-        return levels[i];
-    }
-    LEVELS
+    levels.get(id as usize).copied().unwrap_or(LEVELS)
 }
 
 // The mark of a level: its bit alone. A level that there isn't has none.
@@ -35,7 +31,7 @@ pub fn marks(ready: TaskList, levels: [u8; PLACES]) -> u32
     let n = task_lists::len(ready);
     let mut word: u32 = 0;
     for i in 0..n {
-        word = word | mark(level_at(&levels, ready.ids[i]));
+        word |= mark(level_at(&levels, ready.ids[i]));
     }
     word
 }
@@ -44,5 +40,5 @@ pub fn marks(ready: TaskList, levels: [u8; PLACES]) -> u32
 pub fn first_level(word: u32) -> u8
     ensures { result ≡ first_marked word }
 {
-    u32::trailing_zeros(word) as u8
+    word.trailing_zeros() as u8
 }

@@ -11,3 +11,4 @@ pub mod TableLaws
 pub mod FirstLaws
 pub mod FillLaws
 pub mod LoopLaws
+pub mod OperatorLaws

@@ -9,13 +9,7 @@ pub const EIGHT: usize = 8;
 pub fn can_hold(table: usize, task: u8, n: usize) -> bool
     ensures { result ≡ can_hold table task n }
 {
-    if table / EIGHT <= task as usize {
-        return false;
-    }
-    if EIGHT < n {
-        return false;
-    }
-    true
+    (task as usize) < table / EIGHT && n <= EIGHT
 }
 
 // The n words from the place on lie in the block.
@@ -23,13 +17,7 @@ pub fn can_queue(block: usize, place: u32, n: usize) -> bool
     ensures { result ≡ can_queue block place n }
 {
     let at = place as usize;
-    if block < at {
-        return false;
-    }
-    if block - at < n {
-        return false;
-    }
-    true
+    at <= block && n <= block - at
 }
 
 // The message at the place lies in the block, and the task can hold it.
@@ -37,18 +25,12 @@ pub fn can_take(table: usize, block: usize, place: u32, width: u8, task: u8) -> 
     ensures { result ≡ can_take table block place width task }
 {
     let n = width as usize;
-    if !can_queue(block, place, n) {
-        return false;
-    }
-    can_hold(table, task, n)
+    can_queue(block, place, n) && can_hold(table, task, n)
 }
 
 // And the sender holds one as wide.
 pub fn can_swap(table: usize, block: usize, place: u32, width: u8, task: u8, sender: u8) -> bool
     ensures { result ≡ can_swap table block place width task sender }
 {
-    if !can_take(table, block, place, width, task) {
-        return false;
-    }
-    can_hold(table, sender, width as usize)
+    can_take(table, block, place, width, task) && can_hold(table, sender, width as usize)
 }

@@ -1,5 +1,5 @@
 // What a step moves once it stands: a message to the words that a task holds, or to and from its place in the lent block.
-#![tactic(auto)]
+#![tactic(auto, unfolding(crate::specs::Fits::can_queue))]
 
 mod fits;
 
@@ -40,10 +40,7 @@ pub enum Move {
 pub fn word(s: &[u32], i: usize) -> u32
     ensures { result ≡ get_or s.now i 0 }
 {
-    if i < s.len() {
-        return s[i];
-    }
-    0
+    s.get(i).copied().unwrap_or(0)
 }
 
 // The n words from `at` on set to those of ws and then zeros.
@@ -52,11 +49,9 @@ fn lay(dst: &mut [u32], at: usize, n: usize, ws: &[u32])
     requires ws_len_bound { length ws.now ≤ n }
     ensures { dst.new ≡ laid dst.old at (padded n ws.now) }
 {
-    let mut i = 0;
-    while i < n {
-        dst[at + i] = word(ws, i);
-        i += 1;
-    }
+    let end = at + ws.len();
+    dst[at..end].copy_from_slice(ws);
+    dst[end..at + n].fill(0);
 }
 
 // The words held by the task become the message and then zeros.

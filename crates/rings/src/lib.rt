@@ -1,5 +1,5 @@
 // Message queues as rings in a lent block of words (see specs/), and where each queue begins.
-#![tactic(auto)]
+#![tactic(auto, unfolding(crate::specs::Ring::slot_of, crate::specs::Starts::at_most_all, crate::specs::Starts::start_of))]
 
 ghost use Rattle.std.specs.Prelude.{◌≡◌, ◌*◌, ◌≤◌};
 ghost use Rattle.rings.specs.Ring.{slot_of};
@@ -12,30 +12,23 @@ pub const QUEUES: usize = 8;
 pub fn slot(oldest: u8, depth: u8, k: u8) -> u32
     ensures { result ≡ slot_of oldest depth k }
 {
-    let on = (oldest as u32) + (k as u32);
-    let end = depth as u32;
-    if on < end {
-        return on;
-    }
-    on - end
+    let on = u32::from(oldest) + u32::from(k);
+    let end = u32::from(depth);
+    if on < end { on } else { on - end }
 }
 
 // The words of a queue's place.
 fn area(width: u8, depth: u8) -> u32
     ensures { (result ≡ width * depth) × (result ≤ area_most) }
 {
-    (width as u32) * (depth as u32)
+    u32::from(width) * u32::from(depth)
 }
 
 // The queues before queue j, and all where no queue has that id.
 fn ahead(j: u8) -> usize
     ensures { result ≡ at_most_all j }
 {
-    let n = j as usize;
-    if n < QUEUES {
-        return n;
-    }
-    QUEUES
+    usize::from(j).min(QUEUES)
 }
 
 // The first word of queue j where the queues fill the block in the order of their ids.
@@ -45,8 +38,7 @@ pub fn start<'a>(width: &'a [u8; QUEUES], depth: &'a [u8; QUEUES], j: u8) -> u32
     let n = ahead(j);
     let mut sum = 0u32;
     for i in 0..n {
-        let size = area(width[i], depth[i]);
-        sum += size;
+        sum += area(width[i], depth[i]);
     }
     sum
 }

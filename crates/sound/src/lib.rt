@@ -1,5 +1,5 @@
 // The test of a record, phrase by phrase.
-#![tactic(auto)]
+#![tactic(auto, using(lists::specs::OperatorLaws::operators), unfolding(checks::specs::Checks::sizes_in))]
 
 ghost use Rattle.std.specs.Prelude.{◌≡◌, List, ℕ, length};
 ghost use Rattle.checks.specs.Checks.{sizes_in, others_unused, tasks_in, objects_in, queues_in, lists_in, tables_in, places_in, waits_in, levels_in};
@@ -17,20 +17,13 @@ use task_lists::TaskList;
 fn sizes_in(s: State) -> bool
     ensures { result ≡ sizes_in s }
 {
-    let runs = flags::either(s.running == NONE, s.running < s.tasks.n);
-    let lists = flags::both(
-        s.ready.n <= TASK_PLACES,
-        flags::both(
-            s.waiting.n <= TASK_PLACES,
-            flags::both(s.started <= 1, runs),
-        ),
-    );
-    let queues = flags::both(s.queues.n <= MAX_QUEUES, lists);
-    let objects = flags::both(
-        s.mutexes.n <= MAX_MUTEXES,
-        flags::both(s.semaphores.n <= MAX_SEMAPHORES, queues),
-    );
-    flags::both(s.tasks.n <= TASK_PLACES, objects)
+    let tables = (s.tasks.n <= TASK_PLACES)
+        & (s.mutexes.n <= MAX_MUTEXES)
+        & (s.semaphores.n <= MAX_SEMAPHORES)
+        & (s.queues.n <= MAX_QUEUES);
+    let lists = (s.ready.n <= TASK_PLACES) & (s.waiting.n <= TASK_PLACES);
+    let runs = (s.running == NONE) | (s.running < s.tasks.n);
+    tables & lists & (s.started <= 1) & runs
 }
 
 // "unused table places as in the fresh state", but for the priorities, which are tested with their range; due times belong to timed waits, and

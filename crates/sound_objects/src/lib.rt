@@ -1,7 +1,7 @@
 // Mutexes and semaphores, and the waits on them: one function for each phrase of "sound state", over all places at once.
-#![tactic(auto)]
+#![tactic(auto, using(lists::specs::OperatorLaws::operators, lists::specs::OperatorLaws::fits_amp, lists::specs::LoopLaws::all_none), unfolding(checks::specs::Checks::mutex_fits, checks::specs::Checks::sem_fits, checks::specs::Checks::blocked_fits))]
 
-ghost use Rattle.std.specs.Prelude.{◌≡◌, cond, eqb};
+ghost use Rattle.std.specs.Prelude.{◌≡◌};
 ghost use Rattle.lists.specs.Test.{allb};
 ghost use Rattle.lists.specs.Table.{filled};
 ghost use Rattle.rules.specs.Sizes.{task_places, max_mutexes, max_semaphores};
@@ -16,10 +16,9 @@ use record::{
 fn mutex_fits(used: bool, tasks: u8, kind: u8, owner: u8) -> bool
     ensures { result ≡ mutex_fits used tasks kind owner }
 {
-    let exists = flags::either(owner == NONE, owner < tasks);
-    let made = flags::both(kind < KINDS, exists);
-    let unmade = flags::both(kind == 0, owner == NONE);
-    flags::choose(used, made, unmade)
+    let made = (kind < KINDS) & ((owner == NONE) | (owner < tasks));
+    let unmade = (kind == 0) & (owner == NONE);
+    if used { made } else { unmade }
 }
 
 // Kinds are in range and "owners exist".
@@ -28,10 +27,7 @@ pub fn mutexes(m: Mutexes, tasks: u8) -> bool
 {
     let mut fits = true;
     for i in 0..MAX_MUTEXES {
-        fits = flags::both(
-            mutex_fits(i < m.n, tasks, m.kind[i as usize], m.owner[i as usize]),
-            fits,
-        );
+        fits &= mutex_fits(i < m.n, tasks, m.kind[i as usize], m.owner[i as usize]);
     }
     fits
 }
@@ -40,9 +36,9 @@ pub fn mutexes(m: Mutexes, tasks: u8) -> bool
 fn semaphore_fits(used: bool, count: u32, maximum: u32) -> bool
     ensures { result ≡ sem_fits used count maximum }
 {
-    let made = flags::both(count <= maximum, 0 < maximum);
-    let unmade = flags::both(count == 0, maximum == 0);
-    flags::choose(used, made, unmade)
+    let made = (count <= maximum) & (0 < maximum);
+    let unmade = (count == 0) & (maximum == 0);
+    if used { made } else { unmade }
 }
 
 // "counts at most their maximum, maximum at least 1"
@@ -51,31 +47,18 @@ pub fn semaphores<'a>(count: &'a [u32; SEMAPHORES], maximum: &'a [u32; SEMAPHORE
 {
     let mut fits = true;
     for i in 0..MAX_SEMAPHORES {
-        fits = flags::both(
-            semaphore_fits(i < n, count[i as usize], maximum[i as usize]),
-            fits,
-        );
+        fits &= semaphore_fits(i < n, count[i as usize], maximum[i as usize]);
     }
     fits
 }
 
-// 1 for a semaphore that has no credit.
-fn empty_flag(count: u32) -> u8
-    ensures { result ≡ cond (eqb count 0) 1 0 }
-{
-    if count == 0 {
-        return 1;
-    }
-    0
-}
-
-// The flags of the semaphores without credit.
+// 1 for each semaphore that has no credit.
 pub fn empties(c: Semaphores) -> [u8; SEMAPHORES]
     ensures { result ≡ filled max_semaphores (empty_at c.count) }
 {
     let mut f = [0u8; SEMAPHORES];
     for i in 0..SEMAPHORES {
-        f[i] = empty_flag(c.count[i]);
+        f[i] = u8::from(c.count[i] == 0);
     }
     f
 }
@@ -96,12 +79,13 @@ pub fn at_objects(object: &[u8; TASKS], table: [u8; SEMAPHORES]) -> [u8; TASKS]
 fn is_blocked(kind: u8, object: u8, semaphores: u8, next: u8, empty: u8) -> bool
     ensures { result ≡ blocked_fits kind object semaphores next empty }
 {
-    let by_count = flags::both(object < semaphores, empty == 1);
-    flags::choose(
-        kind == ON_MUTEX,
-        next != NONE,
-        flags::choose(kind == ON_SEMAPHORE, by_count, true),
-    )
+    let by_count = (object < semaphores) & (empty == 1);
+    let other = if kind == ON_SEMAPHORE { by_count } else { true };
+    if kind == ON_MUTEX {
+        next != NONE
+    } else {
+        other
+    }
 }
 
 // "each waiter waits for an existing object that isn't available to it (mutex owned, semaphore at 0) or for time"
@@ -116,10 +100,7 @@ pub fn blocked<'a>(
 {
     let mut fits = true;
     for i in 0..TASKS {
-        fits = flags::both(
-            is_blocked(wait[i], object[i], semaphores, next[i], empty[i]),
-            fits,
-        );
+        fits &= is_blocked(wait[i], object[i], semaphores, next[i], empty[i]);
     }
     fits
 }
@@ -130,7 +111,7 @@ pub fn all_free(owner: &[u8; MUTEXES]) -> bool
 {
     let mut fits = true;
     for i in 0..MUTEXES {
-        fits = flags::both(owner[i] == NONE, fits);
+        fits &= owner[i] == NONE;
     }
     fits
 }

@@ -1,5 +1,5 @@
 // Does each task stand in one place, do the chains of waits end, and are levels as defined?
-#![tactic(auto)]
+#![tactic(auto, using(lists::specs::OperatorLaws::operators, lists::specs::OperatorLaws::fits_amp, lists::specs::LoopLaws::all_none), unfolding(checks::specs::Checks::waits_once, checks::specs::Checks::stands_once))]
 
 ghost use Rattle.std.specs.Prelude.{◌≡◌, get_or};
 ghost use Rattle.lists.specs.Test.{◌and◌, allb};
@@ -37,7 +37,7 @@ fn stands_once(n: u8, running: u8, i: u8) -> u8
 fn place_fits(kind: u8, waits: u8, all: u8, n: u8, running: u8, i: u8) -> bool
     ensures { result ≡ place_fits kind waits all n running i }
 {
-    flags::both(waits == waits_once(kind), all == stands_once(n, running, i))
+    (waits == waits_once(kind)) & (all == stands_once(n, running, i))
 }
 
 // "each task in exactly one of running, ready, waiting", by tables of these counts.
@@ -53,7 +53,7 @@ pub fn places<'a>(
     let mut fits = true;
     for i in 0..TASK_PLACES {
         let j = i as usize;
-        fits = flags::both(place_fits(kind[j], waits[j], all[j], n, running, i), fits);
+        fits &= place_fits(kind[j], waits[j], all[j], n, running, i);
     }
     fits
 }
@@ -74,10 +74,7 @@ fn each_ends<'a>(next: &'a [u8; TASKS], owner: &'a [u8; MUTEXES]) -> bool
 fn table_ends<'a>(next: &'a [u8; TASKS], owner: &'a [u8; MUTEXES]) -> bool
     ensures { result ≡ allb max_mutexes (λ j. endsb task_places (next_in next.now) (task_at (get_or owner.now j 0))) }
 {
-    if sound_objects::all_free(owner) {
-        return true;
-    }
-    each_ends(next, owner)
+    sound_objects::all_free(owner) || each_ends(next, owner)
 }
 
 // "no ring of waits": the chain of every owner ends, of mutexes and of queues, whose tables are equally long. Who waits for nothing that is owned
@@ -89,10 +86,7 @@ pub fn owners_end<'a>(
 ) -> bool
     ensures { result ≡ allb max_mutexes (λ j. endsb task_places (next_in next.now) (task_at (get_or mutexes.now j 0))) and allb max_queues (λ j. endsb task_places (next_in next.now) (task_at (get_or queues.now j 0))) }
 {
-    if !table_ends(next, mutexes) {
-        return false;
-    }
-    table_ends(next, queues)
+    table_ends(next, mutexes) && table_ends(next, queues)
 }
 
 // "stored levels as defined": do two tables hold the same?
@@ -101,7 +95,7 @@ pub fn same<'a>(level: &'a [u8; TASKS], lent: &'a [u8; TASKS]) -> bool
 {
     let mut fits = true;
     for i in 0..TASKS {
-        fits = flags::both(level[i] == lent[i], fits);
+        fits &= level[i] == lent[i];
     }
     fits
 }

@@ -1,5 +1,5 @@
 // The table of queues: one function for each phrase of "sound state" about it, over all places at once.
-#![tactic(auto)]
+#![tactic(auto, using(lists::specs::OperatorLaws::operators, lists::specs::OperatorLaws::fits_amp, lists::specs::LoopLaws::all_none), unfolding(checks::specs::Checks::queue_fits, rules::specs::Sound::is_width, rules::specs::Sound::is_depth))]
 
 ghost use Rattle.std.specs.Prelude.{◌≡◌, leb};
 ghost use Rattle.lists.specs.Test.{◌and◌, allb};
@@ -17,15 +17,14 @@ const DEEPEST: u8 = record::MAX_DEPTH as u8;
 fn width_fits(width: u8) -> bool
     ensures { result ≡ is_width width }
 {
-    let wide = flags::either(width == 4, width == 8);
-    flags::either(width == 1, flags::either(width == 2, wide))
+    (width == 1) | (width == 2) | (width == 4) | (width == 8)
 }
 
 // "depth 1 to 64"
 fn depth_fits(depth: u8) -> bool
     ensures { result ≡ is_depth depth }
 {
-    flags::both(0 < depth, depth <= DEEPEST)
+    (0 < depth) & (depth <= DEEPEST)
 }
 
 // A queue's width and depth are in range, its owner one of `tasks`, its oldest message in its ring, and its messages have room; an unused one is
@@ -33,14 +32,12 @@ fn depth_fits(depth: u8) -> bool
 fn queue_fits(used: bool, tasks: u8, width: u8, depth: u8, owner: u8, oldest: u8, count: u8) -> bool
     ensures { result ≡ queue_fits used tasks width depth owner oldest count }
 {
-    let exists = flags::either(owner == NONE, owner < tasks);
-    let ring = flags::both(oldest < depth, count <= depth);
-    let sizes = flags::both(depth_fits(depth), flags::both(exists, ring));
-    let made = flags::both(width_fits(width), sizes);
-    let none = flags::both(oldest == 0, count == 0);
-    let places = flags::both(depth == 0, flags::both(owner == NONE, none));
-    let unmade = flags::both(width == 0, places);
-    flags::choose(used, made, unmade)
+    let exists = (owner == NONE) | (owner < tasks);
+    let ring = (oldest < depth) & (count <= depth);
+    let made = width_fits(width) & depth_fits(depth) & exists & ring;
+    let none = (oldest == 0) & (count == 0);
+    let unmade = (width == 0) & (depth == 0) & (owner == NONE) & none;
+    if used { made } else { unmade }
 }
 
 // Does a column hold 0 at every place? Of the counts: has no queue a message?
@@ -49,7 +46,7 @@ pub fn all_empty(used: &[u8; QUEUES]) -> bool
 {
     let mut fits = true;
     for q in 0..QUEUES {
-        fits = flags::both(used[q] == 0, fits);
+        fits &= used[q] == 0;
     }
     fits
 }
@@ -63,9 +60,9 @@ fn none_made(x: Queues) -> bool
     let owner = x.owner;
     let oldest = x.oldest;
     let used = x.used;
-    let ring = flags::both(all_empty(&oldest), all_empty(&used));
-    let rest = flags::both(sound_objects::all_free(&owner), ring);
-    flags::both(all_empty(&width), flags::both(all_empty(&depth), rest))
+    let sizes = all_empty(&width) & all_empty(&depth);
+    let ring = all_empty(&oldest) & all_empty(&used);
+    sizes & sound_objects::all_free(&owner) & ring
 }
 
 // Every place is as it should be, whether a queue is made there or not.
@@ -75,17 +72,14 @@ fn each_fits(x: Queues, tasks: u8) -> bool
     let mut fits = true;
     for q in 0..MAX_QUEUES {
         let i = q as usize;
-        fits = flags::both(
-            queue_fits(
-                q < x.n,
-                tasks,
-                x.width[i],
-                x.depth[i],
-                x.owner[i],
-                x.oldest[i],
-                x.used[i],
-            ),
-            fits,
+        fits &= queue_fits(
+            q < x.n,
+            tasks,
+            x.width[i],
+            x.depth[i],
+            x.owner[i],
+            x.oldest[i],
+            x.used[i],
         );
     }
     fits

@@ -1,5 +1,5 @@
 // The columns of the table of tasks: one function for each phrase of "sound state", over all places at once. Unused places pass what a task must.
-#![tactic(auto)]
+#![tactic(auto, using(lists::specs::OperatorLaws::operators, lists::specs::OperatorLaws::fits_amp, lists::specs::LoopLaws::all_none), unfolding(record::specs::SoundRecord::is_object_wait, checks::specs::Checks::wait_fits, checks::specs::Checks::time_fits, checks::specs::Checks::outcome_fits))]
 
 ghost use Rattle.std.specs.Prelude.{◌≡◌};
 ghost use Rattle.lists.specs.Test.{allb};
@@ -18,7 +18,7 @@ pub fn unused<'a>(column: &'a [u8; TASKS], used: &'a [u8; TASKS]) -> bool
 {
     let mut fits = true;
     for i in 0..TASKS {
-        fits = flags::both(flags::either(used[i] == 1, column[i] == 0), fits);
+        fits &= (used[i] == 1) | (column[i] == 0);
     }
     fits
 }
@@ -29,10 +29,11 @@ pub fn priorities<'a>(priority: &'a [u8; TASKS], used: &'a [u8; TASKS]) -> bool
 {
     let mut fits = true;
     for i in 0..TASKS {
-        fits = flags::both(
-            flags::choose(used[i] == 1, priority[i] < LEVELS, priority[i] == 0),
-            fits,
-        );
+        fits &= if used[i] == 1 {
+            priority[i] < LEVELS
+        } else {
+            priority[i] == 0
+        };
     }
     fits
 }
@@ -41,16 +42,16 @@ pub fn priorities<'a>(priority: &'a [u8; TASKS], used: &'a [u8; TASKS]) -> bool
 fn for_object(kind: u8) -> bool
     ensures { result ≡ is_object_wait kind }
 {
-    flags::both(kind != NO_WAIT, kind != ON_TIME)
+    (kind != NO_WAIT) & (kind != ON_TIME)
 }
 
 // An object only for a wait on one, a time only for a wait.
 fn wait_fits(kind: u8, object: u8, timed: u8) -> bool
     ensures { result ≡ wait_fits kind object timed }
 {
-    let objects = flags::either(object == 0, for_object(kind));
-    let times = flags::both(timed <= 1, flags::either(timed == 0, kind != NO_WAIT));
-    flags::both(kind <= ON_RECEIVE, flags::both(objects, times))
+    let objects = (object == 0) | for_object(kind);
+    let times = (timed <= 1) & ((timed == 0) | (kind != NO_WAIT));
+    (kind <= ON_RECEIVE) & objects & times
 }
 
 // Waits are of a kind that there is, and hold what belongs to that kind.
@@ -59,7 +60,7 @@ pub fn waits<'a>(wait: &'a [u8; TASKS], object: &'a [u8; TASKS], timed: &'a [u8;
 {
     let mut fits = true;
     for i in 0..TASKS {
-        fits = flags::both(wait_fits(wait[i], object[i], timed[i]), fits);
+        fits &= wait_fits(wait[i], object[i], timed[i]);
     }
     fits
 }
@@ -70,8 +71,7 @@ pub fn none_for_objects(wait: &[u8; TASKS]) -> bool
 {
     let mut none = true;
     for i in 0..TASKS {
-        let apart = !for_object(wait[i]);
-        none = flags::both(apart, none);
+        none &= !for_object(wait[i]);
     }
     none
 }
@@ -81,9 +81,9 @@ fn time_fits(kind: u8, timed: u8, due: u32, clock: u32) -> bool
     ensures { result ≡ time_fits kind timed due clock }
 {
     let left = reads::ticks_left(due, clock);
-    let in_time = flags::both(0 < left, left <= MAX_TICKS);
-    let untimed = flags::both(due == 0, kind != ON_TIME);
-    flags::choose(timed == 1, in_time, untimed)
+    let in_time = (0 < left) & (left <= MAX_TICKS);
+    let untimed = (due == 0) & (kind != ON_TIME);
+    if timed == 1 { in_time } else { untimed }
 }
 
 // "each timed wait has 1 to 2147483647 ticks left and each sleep is timed"
@@ -97,7 +97,7 @@ pub fn times<'a>(
 {
     let mut fits = true;
     for i in 0..TASKS {
-        fits = flags::both(time_fits(wait[i], timed[i], due[i], clock), fits);
+        fits &= time_fits(wait[i], timed[i], due[i], clock);
     }
     fits
 }
@@ -106,9 +106,12 @@ pub fn times<'a>(
 fn outcome_fits(kind: u8, outcome: u8) -> bool
     ensures { result ≡ outcome_fits kind outcome }
 {
-    let late = flags::either(outcome == TIMED_OUT, outcome == FLUSHED);
-    let ended = flags::either(outcome == GRANTED, late);
-    flags::choose(kind == NO_WAIT, ended, outcome == PENDING)
+    let ended = (outcome == GRANTED) | (outcome == TIMED_OUT) | (outcome == FLUSHED);
+    if kind == NO_WAIT {
+        ended
+    } else {
+        outcome == PENDING
+    }
 }
 
 // "outcomes 0, 1, 20 or 21, and 1 exactly for waiting tasks"
@@ -117,7 +120,7 @@ pub fn outcomes<'a>(wait: &'a [u8; TASKS], outcome: &'a [u8; TASKS]) -> bool
 {
     let mut fits = true;
     for i in 0..TASKS {
-        fits = flags::both(outcome_fits(wait[i], outcome[i]), fits);
+        fits &= outcome_fits(wait[i], outcome[i]);
     }
     fits
 }

@@ -1,5 +1,5 @@
 // The waits at queues, for what isn't available: a waiting sender's queue is full, a waiting receiver's empty.
-#![tactic(auto)]
+#![tactic(auto, using(lists::specs::OperatorLaws::operators, lists::specs::OperatorLaws::fits_amp, lists::specs::LoopLaws::all_none), unfolding(checks::specs::Checks::queue_wait_fits))]
 
 ghost use Rattle.std.specs.Prelude.{◌≡◌, not, ltb, eqb, get_or};
 ghost use Rattle.lists.specs.Test.{◌and◌, ◌or◌, allb};
@@ -13,11 +13,7 @@ use record::{NONE, ON_RECEIVE, ON_SEND, QUEUES, Queues, TASK_PLACES, TASKS};
 fn at(column: [u8; QUEUES], q: u8) -> u8
     ensures { result ≡ get_or column q 0 }
 {
-    let i = q as usize;
-    if QUEUES <= i {
-        return 0;
-    }
-    column[i]
+    column.get(q as usize).copied().unwrap_or(0)
 }
 
 // Task `i` waits to send to queue `q`: it is there and full, and the task's words past its width are 0.
@@ -49,7 +45,7 @@ fn receiver_fits(x: Queues, i: u8, q: u8) -> bool
     }
     let owners = x.owner;
     let owner = at(owners, q);
-    flags::either(owner == NONE, owner == i)
+    (owner == NONE) | (owner == i)
 }
 
 // Whatever task `i` waits for, if it is a queue it isn't available to it.
@@ -87,7 +83,7 @@ fn each_fits<'a>(
 fn elsewhere(kind: u8) -> bool
     ensures { result ≡ not (eqb kind on_send or eqb kind on_receive) }
 {
-    !flags::either(kind == ON_SEND, kind == ON_RECEIVE)
+    !((kind == ON_SEND) | (kind == ON_RECEIVE))
 }
 
 // Does nobody wait at a queue?
@@ -96,7 +92,7 @@ fn none_waits(wait: &[u8; TASKS]) -> bool
 {
     let mut none = true;
     for i in 0..TASKS {
-        none = flags::both(elsewhere(wait[i]), none);
+        none &= elsewhere(wait[i]);
     }
     none
 }
@@ -105,8 +101,5 @@ fn none_waits(wait: &[u8; TASKS]) -> bool
 pub fn fit<'a>(wait: &'a [u8; TASKS], object: &'a [u8; TASKS], x: Queues, words: &'a [u32]) -> bool
     ensures { result ≡ queue_waits_in wait.now object.now x words.now }
 {
-    if none_waits(wait) {
-        return true;
-    }
-    each_fits(wait, object, x, words)
+    none_waits(wait) || each_fits(wait, object, x, words)
 }

@@ -1,7 +1,7 @@
 // The words that tasks hold, eight for each, lent beside the record: a lent slice may have any length.
-#![tactic(auto)]
+#![tactic(auto, using(lists::specs::OperatorLaws::operators, lists::specs::OperatorLaws::fits_amp, lists::specs::LoopLaws::all_none), unfolding(record::specs::SoundRecord::words_tidyb))]
 
-ghost use Rattle.std.specs.Prelude.{◌≡◌, ◌*◌, min};
+ghost use Rattle.std.specs.Prelude.{◌≡◌, ◌*◌};
 ghost use Rattle.lists.specs.Test.{allb};
 ghost use Rattle.rules.specs.Sizes.{task_places, held_words};
 ghost use Rattle.record.specs.SoundRecord.{words_tidyb};
@@ -18,29 +18,19 @@ pub fn past(words: &[u32], i: u8, width: u8) -> bool
     let mut fits = true;
     for n in 0..EIGHT {
         let zero = moves::word(words, first + n) == 0;
-        fits = flags::both(flags::either(n < wide, zero), fits);
+        fits &= (n < wide) | zero;
     }
     fits
-}
-
-// How many of `n` words belong to tasks.
-fn in_table(n: usize) -> usize
-    ensures { result ≡ min n (held_words * task_places) }
-{
-    if n < WORDS {
-        return n;
-    }
-    WORDS
 }
 
 // Tasks hold 0 from the word `first` on.
 fn zero_from(words: &[u32], first: usize) -> bool
     ensures { result ≡ allb (held_words * task_places) (unused_at words.now first) }
 {
-    let end = in_table(words.len());
+    let end = words.len().min(WORDS);
     let mut fits = true;
     for k in first..end {
-        fits = flags::both(words[k] == 0, fits);
+        fits &= words[k] == 0;
     }
     fits
 }
@@ -49,10 +39,7 @@ fn zero_from(words: &[u32], first: usize) -> bool
 pub fn words_tidy(words: &[u32], n: u8) -> bool
     ensures { result ≡ words_tidyb words.now n }
 {
-    if words.len() != WORDS {
-        return false;
-    }
-    zero_from(words, EIGHT * (n as usize))
+    words.len() == WORDS && zero_from(words, EIGHT * (n as usize))
 }
 
 // Does every task hold 0?

@@ -1,5 +1,5 @@
 // What the test of a record asks of a list, and how often each task stands there.
-#![tactic(auto)]
+#![tactic(auto, using(lists::specs::OperatorLaws::operators, lists::specs::OperatorLaws::fits_amp, lists::specs::LoopLaws::all_none), unfolding(task_lists::specs::TaskList::id_fits))]
 
 ghost use Rattle.std.specs.Prelude.{◌≡◌};
 ghost use Rattle.lists.specs.Order.{ascb, tiesb};
@@ -18,7 +18,7 @@ pub fn count_in(c: [u8; PLACES], q: TaskList) -> [u8; PLACES]
     for i in 0..n {
         let j = q.ids[i] as usize;
         if j < PLACES {
-            r[j] = std::num::wrapping_add_u8(r[j], 1);
+            r[j] = r[j].wrapping_add(1);
         }
     }
     r
@@ -29,14 +29,12 @@ pub fn ascending(q: TaskList, keys: [u8; PLACES]) -> bool
     ensures { result ≡ ascb (key_of keys) (items q) }
 {
     let n = task_lists::len(q);
-    let mut i = 1;
-    while i < n {
+    for i in 1..n {
         let a = task_lists::key_of(keys, q.ids[i - 1]);
         let b = task_lists::key_of(keys, q.ids[i]);
         if b < a {
             return false;
         }
-        i += 1;
     }
     true
 }
@@ -46,8 +44,7 @@ pub fn ties_by_id(q: TaskList, keys: [u8; PLACES]) -> bool
     ensures { result ≡ tiesb (key_of keys) (items q) }
 {
     let n = task_lists::len(q);
-    let mut i = 1;
-    while i < n {
+    for i in 1..n {
         let x = q.ids[i - 1];
         let y = q.ids[i];
         if task_lists::key_of(keys, x) == task_lists::key_of(keys, y) {
@@ -55,19 +52,8 @@ pub fn ties_by_id(q: TaskList, keys: [u8; PLACES]) -> bool
                 return false;
             }
         }
-        i += 1;
     }
     true
-}
-
-// 1 for a place that a count uses.
-fn used_flag(i: u8, n: u8) -> u8
-    ensures { result ≡ used_at n i }
-{
-    if i < n {
-        return 1;
-    }
-    0
 }
 
 // The flags of the first `n` places.
@@ -76,7 +62,7 @@ pub fn used_places(n: u8) -> [u8; PLACES]
 {
     let mut f = [0u8; PLACES];
     for i in 0..PLACES as u8 {
-        f[i as usize] = used_flag(i, n);
+        f[i as usize] = u8::from(i < n);
     }
     f
 }
@@ -88,7 +74,7 @@ pub fn ids_fit<'a>(ids: &'a [u8; PLACES], used: &'a [u8; PLACES], tasks: u8) -> 
     let mut fits = true;
     for i in 0..PLACES {
         let id = ids[i];
-        fits = flags::both(flags::choose(used[i] == 1, id < tasks, id == NONE), fits);
+        fits &= if used[i] == 1 { id < tasks } else { id == NONE };
     }
     fits
 }

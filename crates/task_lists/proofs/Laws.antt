@@ -9,28 +9,35 @@ use native.Mathlib.Numerals.{add-one}
 use borrow.Author.Tests.{le-leb, lt-leb, lt-ltb, eq-eqb, ne_eqb}
 use lib.Dec.{leb, eqb}
 use lib.ListN.{length, get_or, set, take, drop, length-take, replicate}
-use lib.Seq.{drop-cons, take-suc-set, drop-set-lt, append_snoc, set_split}
+use lib.Seq.{set_split}
+use Rattle.std.specs.List.{copy_within}
+use Rattle.std.proofs.Common.{length-take-le, length-append, append_assoc, drop_at}
+use Rattle.std.proofs.lemmas.List.{take-append-le, take-take}
 use Rattle.lists.specs.TestLaws.{by_test}
 use Rattle.lists.specs.Table.{pad, filled}
 use Rattle.lists.specs.Order.{keep, range, first_at, first_from, or_else}
 use Rattle.lists.specs.OrderLaws.{keep_append}
 use Rattle.rules.specs.Sizes.{levels}
-use Rattle.task_lists.specs.TaskList.{places, no_id, items, task_list_of, key_of, pushed, place_of, id_of, tailed, inserted_if, inserted_flagged, waits_for, best_of}
+use Rattle.task_lists.specs.TaskList.{places, no_id, items, task_list_of, key_of, pushed, place_of, opened, id_of, tailed, inserted_if, inserted_flagged, waits_for, best_of}
 use Rattle.task_lists.specs.TaskListLaws.{items_task_list_of, push_task_list_of}
 use Rattle.task_lists.specs.declared.TaskList.{TaskList}
 use Rattle.task_lists.specs.ItemLaws.{items_step, items_end, items_take, items_few}
 
--- an upward shift from place i on, v the one that is carried
-pub open_step : (a : List ℕ) (n i v : ℕ) → i < n → n < length a
-    → take (i + 1) (set a i v) ++ (get_or a i 0 ∷ take (n - (i + 1)) (drop (i + 1) (set a i v))) ≡ take i a ++ (v ∷ take (n - i) (drop i a))
-open_step a n i v h k =
-    let e : n - i ≡ suc (n - suc i) = omega arith in
-    let l : i < length a = omega arith in
-    let m : i < suc i = omega arith in
-    rw (add-one, take-suc-set a i v l, drop-set-lt (suc i) a i v m, append_snoc, drop-cons a i 0 l, e)
-
-pub open_end : (a : List ℕ) (n v : ℕ) → n < length a → set a n v ≡ (take n a ++ (v ∷ take (n - n) (drop n a))) ++ drop (n + 1) a
-open_end a n v h = let e : n - n ≡ 0 = omega arith in rw (set_split a n v h, e, append_snoc, add-one)
+-- what stood from place p on moved one place on, and v put there
+pub open_shift : (a : List ℕ) (p n v : ℕ) → p ≤ n → n < length a → set (copy_within a p n (p + 1)) p v ≡ opened a n p v
+open_shift a p n v h k =
+    let m : p + 1 + (n - p) ≡ n + 1 = omega arith in
+    let l : length (take (p + 1) a) ≡ p + 1 = length-take-le (p + 1) a (omega arith) in
+    let s : List ℕ = take (p + 1) a ++ take (n - p) (drop p a) ++ drop (n + 1) a in
+    let x : List ℕ = take (n - p) (drop p a) in
+    let r : length (take (p + 1) a ++ x) ≡ p + 1 + length x = length-append (take (p + 1) a) x ∙ ap (λ (i : ℕ). i + length x) l in
+    let front : take p s ≡ take p a =
+    take-append-le p (take (p + 1) a ++ x) (drop (n + 1) a) (omega (arith, r))
+    ∙ take-append-le p (take (p + 1) a) x (omega (arith, l))
+    ∙ take-take p (p + 1) a (omega arith) in
+    let back : drop (suc p) s ≡ x ++ drop (n + 1) a =
+    ap (drop (suc p)) (append_assoc (take (p + 1) a) x (drop (n + 1) a)) ∙ drop_at (take (p + 1) a) (x ++ drop (n + 1) a) (suc p) (omega (arith, l)) in
+    rw m (set_split s p v (omega (arith, r, length-append (take (p + 1) a ++ x) (drop (n + 1) a))) ∙ rw (front, back) (sym (append_assoc (take p a) (v ∷ x) (drop (n + 1) a))))
 
 module _ (q : TaskList) where
   -- the place of the first whose key is at least t

@@ -1,7 +1,7 @@
 // Lists of task ids: a table of sixteen places whose first `n` are used, the others holding NONE.
 #![tactic(auto)]
 
-ghost use Rattle.std.specs.Prelude.{◌≡◌, ◌≤◌, ◌<◌, length, take};
+ghost use Rattle.std.specs.Prelude.{◌≡◌, ◌≤◌, ◌<◌, ℕ, Bool, length, take};
 ghost use Rattle.lists.specs.Order.{keep};
 ghost use Rattle.task_lists.specs.TaskList.{places, items, first_ids, key_of, pushed, place_of, opened, inserted, kept, task_list_of, tailed, inserted_flagged, every_id, best_of, waits_for};
 
@@ -30,25 +30,16 @@ pub fn key_of(keys: [u8; PLACES], id: u8) -> u8
 
 // The same in a table that is lent, so that a loop moves no table.
 fn key_in(keys: &[u8; PLACES], id: u8) -> u8
-    requires { length keys.now ≡ places }
     ensures { result ≡ key_of keys.now id }
 {
-    let i = id as usize;
-    if i < PLACES {
-        return keys[i];
-    }
-    0
+    keys.get(id as usize).copied().unwrap_or(0)
 }
 
 // How many stand in the list: a count beyond the table counts as the whole table.
 pub fn len(q: TaskList) -> usize
     ensures { result ≡ length (items q) }
 {
-    let n = q.n as usize;
-    if n < PLACES {
-        return n;
-    }
-    PLACES
+    (q.n as usize).min(PLACES)
 }
 
 // The list with `id` behind all others; a full one stays.
@@ -59,49 +50,37 @@ pub fn push(q: TaskList, id: u8) -> TaskList
     if n < PLACES {
         let mut ids = q.ids;
         ids[n] = id;
-        return TaskList {
-            ids: ids,
-            n: q.n + 1,
-        };
+        return TaskList { ids, n: q.n + 1 };
     }
     q
 }
 
 // The place of the first whose key is at least `t`, or behind all, in a table whose first `n` places are used.
 fn place_in(ids: &[u8; PLACES], n: usize, keys: &[u8; PLACES], t: u16) -> usize
-    requires { (n ≤ places) × (length ids.now ≡ places) × (length keys.now ≡ places) }
+    requires { n ≤ places }
     ensures { result ≡ place_of keys.now t (take n ids.now) }
 {
-    let mut i = 0;
-    while i < n {
+    for i in 0..n {
         let key = key_in(keys, ids[i]) as u16;
         if t <= key {
             return i;
         }
-        i += 1;
     }
-    i
+    n
 }
 
 // `id` at place `p` of a table whose first `n` places are used, and what stood from there on one place on.
 fn open_at(ids: &mut [u8; PLACES], p: usize, n: usize, id: u8)
-    requires { (p ≤ n) × (n < places) × (length ids.old ≡ places) }
-    ensures { (length ids.new ≡ places) × (ids.new ≡ opened ids.old n p id) }
+    requires { (p ≤ n) × (n < places) }
+    ensures { ids.new ≡ opened ids.old n p id }
 {
-    let mut v = id;
-    for i in p..n {
-        let y = ids[i];
-        ids[i] = v;
-        v = y;
-    }
-    ids[n] = v;
+    ids.copy_within(p..n, p + 1);
+    ids[p] = id;
 }
 
 // `id` before the first whose key is at least `t`, in a table whose first `used` places are used, and how many are used then; a full one stays.
 fn insert_in(ids: &mut [u8; PLACES], used: u8, keys: &[u8; PLACES], t: u16, id: u8) -> u8
-    requires { (length ids.old ≡ places) × (length keys.now ≡ places) }
-    ensures { (length ids.new ≡ places)
-        × (first_ids ids.new result ≡ inserted (first_ids ids.old used) keys.now t id) }
+    ensures { first_ids ids.new result ≡ inserted (first_ids ids.old used) keys.now t id }
 {
     let n = used as usize;
     if PLACES <= n {
@@ -118,7 +97,7 @@ pub fn insert(q: TaskList, keys: [u8; PLACES], t: u16, id: u8) -> TaskList
 {
     let mut ids = q.ids;
     let n = insert_in(&mut ids, q.n, &keys, t, id);
-    TaskList { ids: ids, n: n }
+    TaskList { ids, n }
 }
 
 // The list with `id` at the tail of its key; a full one stays.
@@ -129,24 +108,29 @@ pub fn insert_tail(q: TaskList, keys: [u8; PLACES], id: u8) -> TaskList
     insert(q, keys, t, id)
 }
 
-// The list of those whose flag is `v`, in their order. The kept ids go into a table of their own, so that no list is moved in the loop.
-pub fn keep_flagged(q: TaskList, flags: [u8; PLACES], v: u8) -> TaskList
-    ensures { result ≡ kept q flags v }
+// The list of those that pass a test, in their order. The kept ids go into a table of their own, so that no list is moved in the loop.
+fn keep_where<F: Fn(u8) -> bool>(q: TaskList, test: F) -> TaskList
+    requires { F.IsAlwaysCallable test }
+    ensures { (p : ℕ → Bool) → ((x : ℕ) (b : Bool) → F.post test x b → b ≡ p x) → result ≡ task_list_of (keep p (items q)) }
 {
     let n = len(q);
     let mut ids = [NONE; PLACES];
     let mut k: usize = 0;
     for i in 0..n {
         let id = q.ids[i];
-        if key_in(&flags, id) == v {
+        if test(id) {
             ids[k] = id;
             k += 1;
         }
     }
-    TaskList {
-        ids: ids,
-        n: k as u8,
-    }
+    TaskList { ids, n: k as u8 }
+}
+
+// The list of those whose flag is `v`, in their order.
+pub fn keep_flagged(q: TaskList, flags: [u8; PLACES], v: u8) -> TaskList
+    ensures { result ≡ kept q flags v }
+{
+    keep_where(q, |id| key_in(&flags, id) == v)
 }
 
 // The list with each task of `order` whose flag is 1, in that order, at the tail of its key: one pass over the order. They go into one table in place, so that no list is moved in the loop.
@@ -168,7 +152,7 @@ pub fn insert_flagged(
             k = insert_in(&mut ids, k, &keys, t, id);
         }
     }
-    TaskList { ids: ids, n: k }
+    TaskList { ids, n: k }
 }
 
 // Every id below `n`, ascending: an order to go through, not one to keep, since what stands behind the first `n` is not NONE.
@@ -179,7 +163,7 @@ pub fn every_id(n: u8) -> TaskList
     for i in 0..PLACES as u8 {
         ids[i as usize] = i;
     }
-    TaskList { ids: ids, n: n }
+    TaskList { ids, n }
 }
 
 // The best waiter for an object: the first found going through the levels and, in a level, oldest wait first; NONE where nobody waits.
@@ -203,13 +187,11 @@ pub fn best_waiter(
         if LEVELS <= l {
             break 'levels NONE;
         }
-        let mut i: usize = 0;
-        'waits: while i < n {
+        'waits: for i in 0..n {
             let id = w.ids[i];
             if key_in(&keys, id) == l {
                 break 'levels id;
             }
-            i += 1;
         }
         l += 1;
     }
@@ -225,29 +207,12 @@ fn waiters_of(
 ) -> TaskList
     ensures { result ≡ task_list_of (keep (waits_for kinds objects kind object) (items q)) }
 {
-    let n = len(q);
-    let mut ids = [NONE; PLACES];
-    let mut k: usize = 0;
-    for i in 0..n {
-        let id = q.ids[i];
-        if waits_for(id, &kinds, &objects, kind, object) {
-            ids[k] = id;
-            k += 1;
-        }
-    }
-    TaskList {
-        ids: ids,
-        n: k as u8,
-    }
+    keep_where(q, |id| waits_for(id, &kinds, &objects, kind, object))
 }
 
 // Does the task wait for the object?
 fn waits_for(id: u8, kinds: &[u8; PLACES], objects: &[u8; PLACES], kind: u8, object: u8) -> bool
-    requires { (length kinds.now ≡ places) × (length objects.now ≡ places) }
     ensures { result ≡ waits_for kinds.now objects.now kind object id }
 {
-    if key_in(kinds, id) != kind {
-        return false;
-    }
-    key_in(objects, id) == object
+    key_in(kinds, id) == kind && key_in(objects, id) == object
 }

@@ -5,42 +5,24 @@ ghost use Rattle.machine.specs.Machine.{put_flagged, outcome_on};
 
 use record::{ON_TIME, TASKS};
 
-fn clear(flag: u8, x: u8) -> u8
-    ensures { result ≡ (if nat_eq flag 1 then 0 else x) }
-{
-    if flag == 1 {
-        return 0;
-    }
-    x
-}
-
 // The column with 0 where the flag is 1.
 pub fn cleared(column: [u8; TASKS], flags: &[u8; TASKS]) -> [u8; TASKS]
     ensures { result ≡ put_flagged flags.now (λ i. 0) column }
 {
     let mut r = [0u8; TASKS];
     for i in 0..TASKS {
-        r[i] = clear(flags[i], column[i]);
+        r[i] = if flags[i] == 1 { 0 } else { column[i] };
     }
     r
 }
 
-fn clear_time(flag: u8, due: u32) -> u32
-    ensures { result ≡ (if nat_eq flag 1 then 0 else due) }
-{
-    if flag == 1 {
-        return 0;
-    }
-    due
-}
-
-// The same for due times.
+// The same for due times; not one function over both element types, since the clause's `put_flagged` is of tables of numbers.
 pub fn times_cleared(column: [u32; TASKS], flags: &[u8; TASKS]) -> [u32; TASKS]
     ensures { result ≡ put_flagged flags.now (λ i. 0) column }
 {
     let mut r = [0u32; TASKS];
     for i in 0..TASKS {
-        r[i] = clear_time(flags[i], column[i]);
+        r[i] = if flags[i] == 1 { 0 } else { column[i] };
     }
     r
 }

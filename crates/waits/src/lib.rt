@@ -1,5 +1,5 @@
 // Waits in the table of tasks: they begin and end, flags name tasks by them, and one waiter is the best.
-#![tactic(auto)]
+#![tactic(auto, using(lists::specs::OperatorLaws::fits_amp, lists::specs::LoopLaws::all_none), unfolding(machine::specs::Machine::any_flag))]
 
 mod columns;
 
@@ -149,7 +149,7 @@ pub fn any_flag(f: [u8; TASKS]) -> bool
 {
     let mut none = true;
     for i in 0..TASKS {
-        none = flags::both(f[i] != 1, none);
+        none &= f[i] != 1;
     }
     !none
 }

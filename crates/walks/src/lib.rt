@@ -36,18 +36,13 @@ pub fn levels_of(own: [u8; TASKS], next: &[u8; TASKS], n: u8) -> [u8; TASKS]
     ensures { result ≡ raised own next.now n (min n task_places) }
 {
     let mut l = own;
-    let mut j: u8 = 0;
-    while j < n {
+    for j in 0..n.min(TASK_PLACES) {
         let i = j as usize;
-        if TASKS <= i {
-            return l;
-        }
         // A task that leads nowhere lifts only itself, and stands there already.
         let to = next[i];
         if to < TASK_PLACES {
             lift(&mut l, next, j, own[i], n);
         }
-        j += 1;
     }
     l
 }

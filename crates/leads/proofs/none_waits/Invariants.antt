@@ -7,7 +7,4 @@ use Rattle.record.specs.Reads.{leads_nowhere_at}
 use Rattle.leads.proofs.none_waits.Given as goal
 
 abbrev pub invariant-loop-i : goal.invariant-loop-i
-invariant-loop-i l = (l.i ≤ task_places) × (l.none ≡ allb l.i (leads_nowhere_at l.wait))
-
-abbrev pub decreases-loop-i : goal.decreases-loop-i
-decreases-loop-i l = task_places - l.i
+invariant-loop-i l = l.none ≡ allb l.i (leads_nowhere_at l.wait)

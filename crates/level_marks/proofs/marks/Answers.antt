@@ -12,13 +12,7 @@ use Rattle.level_marks.specs.MarkLaws.{marks_nobody, marks_more}
 use Rattle.level_marks.proofs.marks.Goals as goal
 
 pub loop-i-init : goal.loop-i-init
-loop-i-init c = (search rules, sym (marks_nobody _))
-
-pub bounds-ready-i : goal.bounds-ready-i
-bounds-ready-i c =
-    let q = c.args.ready in
-    let g : length q.ids ≡ places = search rules in
-    omega (arith, items_few q g)
+loop-i-init c = sym (marks_nobody _)
 
 pub loop-i-preserved : goal.loop-i-preserved
 loop-i-preserved c =
@@ -26,13 +20,11 @@ loop-i-preserved c =
     let l = c.loop-i in
     let h : l.i < length (items a.ready) = omega arith in
     let level = level_at a.levels in
-    let x = get_or a.ready.ids l.i 0 in (
-      search rules,
-      rw (l.invariant.1, c.mark-word.ensures, c.level_at.ensures, items_take a.ready l.i h) (marks_more level (take l.i (items a.ready)) x),
-    )
+    let x = get_or a.ready.ids l.i 0 in
+    rw (l.invariant, c.mark-word.ensures, c.level_at.ensures, items_take a.ready l.i h) (marks_more level (take l.i (items a.ready)) x)
 
 pub returns : goal.returns
 returns c =
     let q = c.args.ready in
     let e : c.loop-i.i ≡ length (items q) = omega arith in
-    c.loop-i.invariant.1 ∙ rw (e, take-length (items q))
+    c.loop-i.invariant ∙ rw (e, take-length (items q))

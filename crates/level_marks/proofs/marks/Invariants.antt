@@ -7,7 +7,4 @@ use Rattle.level_marks.specs.Marks.{marks_in}
 use Rattle.level_marks.proofs.marks.Given as goal
 
 abbrev pub invariant-loop-i : goal.invariant-loop-i
-invariant-loop-i l = (l.i ≤ l.n) × (l.word ≡ marks_in l.levels (take l.i (items l.ready)))
-
-abbrev pub decreases-loop-i : goal.decreases-loop-i
-decreases-loop-i l = l.n - l.i
+invariant-loop-i l = l.word ≡ marks_in l.levels (take l.i (items l.ready))

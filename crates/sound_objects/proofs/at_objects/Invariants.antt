@@ -7,7 +7,4 @@ use Rattle.checks.specs.Checks.{at_object}
 use Rattle.sound_objects.proofs.at_objects.Given as goal
 
 abbrev pub invariant-loop-i : goal.invariant-loop-i
-invariant-loop-i l = (l.i ≤ task_places) × (l.a ≡ so_far task_places (at_object l.object l.table) 0 l.i)
-
-abbrev pub decreases-loop-i : goal.decreases-loop-i
-decreases-loop-i l = task_places - l.i
+invariant-loop-i l = l.a ≡ so_far task_places (at_object l.object l.table) 0 l.i

@@ -7,7 +7,4 @@ use Rattle.checks.specs.Checks.{blocked_fits_at}
 use Rattle.sound_objects.proofs.blocked.Given as goal
 
 abbrev pub invariant-loop-i : goal.invariant-loop-i
-invariant-loop-i l = (l.i ≤ task_places) × (l.fits ≡ allb l.i (blocked_fits_at l.wait l.object l.next l.empty l.semaphores))
-
-abbrev pub decreases-loop-i : goal.decreases-loop-i
-decreases-loop-i l = task_places - l.i
+invariant-loop-i l = l.fits ≡ allb l.i (blocked_fits_at l.wait l.object l.next l.empty l.semaphores)

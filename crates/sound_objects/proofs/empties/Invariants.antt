@@ -7,7 +7,4 @@ use Rattle.checks.specs.Checks.{empty_at}
 use Rattle.sound_objects.proofs.empties.Given as goal
 
 abbrev pub invariant-loop-i : goal.invariant-loop-i
-invariant-loop-i l = (l.i ≤ max_semaphores) × (l.f ≡ so_far max_semaphores (empty_at l.c.count) 0 l.i)
-
-abbrev pub decreases-loop-i : goal.decreases-loop-i
-decreases-loop-i l = max_semaphores - l.i
+invariant-loop-i l = l.f ≡ so_far max_semaphores (empty_at l.c.count) 0 l.i

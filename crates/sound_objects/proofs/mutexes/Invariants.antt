@@ -7,7 +7,4 @@ use Rattle.checks.specs.Checks.{mutex_fits_at}
 use Rattle.sound_objects.proofs.mutexes.Given as goal
 
 abbrev pub invariant-loop-i : goal.invariant-loop-i
-invariant-loop-i l = (l.i ≤ max_mutexes) × (l.fits ≡ allb l.i (mutex_fits_at l.m.kind l.m.owner l.m.n l.tasks))
-
-abbrev pub decreases-loop-i : goal.decreases-loop-i
-decreases-loop-i l = max_mutexes - l.i
+invariant-loop-i l = l.fits ≡ allb l.i (mutex_fits_at l.m.kind l.m.owner l.m.n l.tasks)

@@ -7,7 +7,4 @@ use Rattle.checks.specs.Checks.{sem_fits_at}
 use Rattle.sound_objects.proofs.semaphores.Given as goal
 
 abbrev pub invariant-loop-i : goal.invariant-loop-i
-invariant-loop-i l = (l.i ≤ max_semaphores) × (l.fits ≡ allb l.i (sem_fits_at l.count l.maximum l.n))
-
-abbrev pub decreases-loop-i : goal.decreases-loop-i
-decreases-loop-i l = max_semaphores - l.i
+invariant-loop-i l = l.fits ≡ allb l.i (sem_fits_at l.count l.maximum l.n)

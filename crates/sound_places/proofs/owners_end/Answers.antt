@@ -1,13 +1,12 @@
 -- `sound_places::owners_end` meets its contract: table by table, until one fails. Assumes nothing.
-use Rattle.std.proofs.Common.{ap, not}
-use Rattle.lists.specs.Test.{◌and◌}
-use Rattle.lists.specs.LoopLaws.{test_passed, test_failed}
+use Rattle.std.proofs.Common.{sym, ◌∙◌}
+use Rattle.lists.specs.OperatorLaws.{and_on, and_off}
 use Rattle.sound_places.proofs.owners_end.Goals as goal
 
-pub returns-then-not-table_ends : goal.returns-then-not-table_ends
-unfolding ◌and◌
-returns-then-not-table_ends c = rw (test_failed c.table_ends.ensures (ap not c.if-not-table_ends.true))
+pub returns-then-table_ends : goal.returns-then-table_ends
+returns-then-table_ends c =
+    c.table_ends-then-table_ends.ensures ∙ sym (and_on _ _ (sym c.table_ends.ensures ∙ c.if-table_ends.true))
 
-pub returns : goal.returns
-unfolding ◌and◌
-returns c = rw (test_passed c.table_ends.ensures (ap not c.if-not-table_ends.false)) c.table_ends-2.ensures
+pub returns-else-table_ends : goal.returns-else-table_ends
+returns-else-table_ends c =
+    c.table_ends.ensures ∙ sym (and_off _ _ (sym c.table_ends.ensures ∙ c.if-table_ends.false))

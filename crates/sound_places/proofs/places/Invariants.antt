@@ -7,7 +7,4 @@ use Rattle.checks.specs.Checks.{place_at}
 use Rattle.sound_places.proofs.places.Given as goal
 
 abbrev pub invariant-loop-i : goal.invariant-loop-i
-invariant-loop-i l = (l.i ≤ task_places) × (l.fits ≡ allb l.i (place_at l.kind l.waits l.all l.n l.running))
-
-abbrev pub decreases-loop-i : goal.decreases-loop-i
-decreases-loop-i l = task_places - l.i
+invariant-loop-i l = l.fits ≡ allb l.i (place_at l.kind l.waits l.all l.n l.running)

@@ -7,7 +7,4 @@ use Rattle.checks.specs.Checks.{same_at}
 use Rattle.sound_places.proofs.same.Given as goal
 
 abbrev pub invariant-loop-i : goal.invariant-loop-i
-invariant-loop-i l = (l.i ≤ task_places) × (l.fits ≡ allb l.i (same_at l.level l.lent))
-
-abbrev pub decreases-loop-i : goal.decreases-loop-i
-decreases-loop-i l = task_places - l.i
+invariant-loop-i l = l.fits ≡ allb l.i (same_at l.level l.lent)

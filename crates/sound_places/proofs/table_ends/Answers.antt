@@ -6,4 +6,4 @@ use Rattle.sound_places.proofs.table_ends.Goals as goal
 pub returns-then-all_free : goal.returns-then-all_free
 returns-then-all_free c =
     let a = c.args in
-    free_ends a.next.now a.owner.now (sym c.all_free.ensures ∙ c.if-all_free.true)
+    c.if-all_free.true ∙ free_ends a.next.now a.owner.now (sym c.all_free.ensures ∙ c.if-all_free.true)

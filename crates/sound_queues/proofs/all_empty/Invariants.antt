@@ -7,7 +7,4 @@ use Rattle.checks.specs.Checks.{unused_at}
 use Rattle.sound_queues.proofs.all_empty.Given as goal
 
 abbrev pub invariant-loop-q : goal.invariant-loop-q
-invariant-loop-q l = (l.q ≤ max_queues) × (l.fits ≡ allb l.q (unused_at l.used 0))
-
-abbrev pub decreases-loop-q : goal.decreases-loop-q
-decreases-loop-q l = max_queues - l.q
+invariant-loop-q l = l.fits ≡ allb l.q (unused_at l.used 0)

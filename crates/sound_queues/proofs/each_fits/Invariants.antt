@@ -7,7 +7,4 @@ use Rattle.checks.specs.Checks.{queue_fits_at}
 use Rattle.sound_queues.proofs.each_fits.Given as goal
 
 abbrev pub invariant-loop-q : goal.invariant-loop-q
-invariant-loop-q l = (l.q ≤ max_queues) × (l.fits ≡ allb l.q (queue_fits_at l.x l.tasks))
-
-abbrev pub decreases-loop-q : goal.decreases-loop-q
-decreases-loop-q l = max_queues - l.q
+invariant-loop-q l = l.fits ≡ allb l.q (queue_fits_at l.x l.tasks)

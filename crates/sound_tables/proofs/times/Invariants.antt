@@ -1,13 +1,10 @@
 -- `sound_tables::times` meets its contract. The loop carries the test of the places passed. Assumes nothing.
 use mathlib.Core.Path.{◌≡◌}
-use Prim.Native.Nat.{◌-◌, ◌≤◌}
+use Prim.Native.Nat.{◌≤◌}
 use Rattle.lists.specs.Test.{allb}
 use Rattle.rules.specs.Sizes.{task_places}
 use Rattle.checks.specs.Checks.{time_fits_at}
 use Rattle.sound_tables.proofs.times.Given as goal
 
 abbrev pub invariant-loop-i : goal.invariant-loop-i
-invariant-loop-i l = (l.i ≤ task_places) × (l.fits ≡ allb l.i (time_fits_at l.wait l.timed l.due l.clock))
-
-abbrev pub decreases-loop-i : goal.decreases-loop-i
-decreases-loop-i l = task_places - l.i
+invariant-loop-i l = l.fits ≡ allb l.i (time_fits_at l.wait l.timed l.due l.clock)

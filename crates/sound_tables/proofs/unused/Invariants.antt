@@ -1,13 +1,10 @@
 -- `sound_tables::unused` meets its contract. The loop carries the test of the places passed. Assumes nothing.
 use mathlib.Core.Path.{◌≡◌}
-use Prim.Native.Nat.{◌-◌, ◌≤◌}
+use Prim.Native.Nat.{◌≤◌}
 use Rattle.lists.specs.Test.{allb}
 use Rattle.rules.specs.Sizes.{task_places}
 use Rattle.checks.specs.Checks.{unused_by}
 use Rattle.sound_tables.proofs.unused.Given as goal
 
 abbrev pub invariant-loop-i : goal.invariant-loop-i
-invariant-loop-i l = (l.i ≤ task_places) × (l.fits ≡ allb l.i (unused_by l.column l.used))
-
-abbrev pub decreases-loop-i : goal.decreases-loop-i
-decreases-loop-i l = task_places - l.i
+invariant-loop-i l = l.fits ≡ allb l.i (unused_by l.column l.used)

@@ -6,4 +6,4 @@ use Rattle.sound_waiters.proofs.fit.Goals as goal
 pub returns-then-none_waits : goal.returns-then-none_waits
 returns-then-none_waits c =
     let a = c.args in
-    none_waits_fit a.wait.now a.object.now a.x a.words.now (sym c.none_waits.ensures ∙ c.if-none_waits.true)
+    c.if-none_waits.true ∙ none_waits_fit a.wait.now a.object.now a.x a.words.now (sym c.none_waits.ensures ∙ c.if-none_waits.true)

@@ -14,7 +14,4 @@ abbrev pub zero_at : List ℕ → ℕ → ℕ → ℕ → Bool
 zero_at words i width n = ltb n width or eqb (get_or words (held_words * i + n) 0) 0
 
 abbrev pub invariant-loop-n : goal.invariant-loop-n
-invariant-loop-n l = (l.n ≤ held_words) × (l.fits ≡ allb l.n (zero_at l.words l.i l.width))
-
-abbrev pub decreases-loop-n : goal.decreases-loop-n
-decreases-loop-n l = held_words - l.n
+invariant-loop-n l = l.fits ≡ allb l.n (zero_at l.words l.i l.width)

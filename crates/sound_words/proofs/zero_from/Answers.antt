@@ -8,8 +8,8 @@ use native.Mathlib.Omega.{arith}
 use lib.Dec.{eqb}
 use lib.ListN.{get_or}
 use borrow.Author.Tests.{le-ltb}
-use Rattle.lists.specs.Test.{◌and◌, ◌or◌}
-use Rattle.lists.specs.LoopLaws.{fits_more}
+use Rattle.lists.specs.Test.{◌or◌}
+use Rattle.lists.specs.OperatorLaws.{fits_amp}
 use Rattle.checks.specs.Checks.{unused_at}
 use Rattle.sound_words.proofs.Laws.{unused_front, unused_end}
 use Rattle.sound_words.proofs.zero_from.Goals as goal
@@ -18,18 +18,18 @@ pub loop-k-init : goal.loop-k-init
 loop-k-init c = let a = c.args in (search rules, inr (search rules), unused_front a.words.now a.first)
 
 pub loop-k-preserved : goal.loop-k-preserved
-unfolding ◌and◌ ◌or◌
+unfolding ◌or◌
 loop-k-preserved c =
     let a = c.args in
     let l = c.loop-k in (
       search rules,
-      inl (omega (arith, c.in_table-end.ensures)),
-      fits_more (unused_at a.words.now a.first) l.k l.fits c.both-fits.result l.invariant.2
-          (c.both-fits.ensures ∙ ap (λ (t : Bool). t and l.fits) (sym (ap (λ (t : Bool). t or eqb (get_or a.words.now l.k 0) 0) (le-ltb l.k a.first l.invariant.0)))),
+      inl (omega (arith, c.min-end.ensures)),
+      fits_amp (unused_at a.words.now a.first) l.k l.fits _ l.invariant.2
+          (sym (ap (λ (t : Bool). t or eqb (get_or a.words.now l.k 0) 0) (le-ltb l.k a.first l.invariant.0))),
     )
 
 pub returns : goal.returns
 returns c =
     let a = c.args in
     let l = c.loop-k in
-    l.invariant.2 ∙ unused_end a.words.now a.first l.k l.invariant.1 (omega (arith, c.in_table-end.ensures))
+    l.invariant.2 ∙ unused_end a.words.now a.first l.k l.invariant.1 (omega (arith, c.min-end.ensures))

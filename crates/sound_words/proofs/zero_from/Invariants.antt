@@ -9,6 +9,3 @@ use Rattle.sound_words.proofs.zero_from.Given as goal
 
 abbrev pub invariant-loop-k : goal.invariant-loop-k
 invariant-loop-k l = (l.first ≤ l.k) × ((l.k ≤ held_words * task_places) ⊎ (l.k ≤ l.first)) × (l.fits ≡ allb l.k (unused_at l.words l.first))
-
-abbrev pub decreases-loop-k : goal.decreases-loop-k
-decreases-loop-k l = l.end - l.k

@@ -6,31 +6,16 @@ use Rattle.task_lists.specs.ItemLaws.{items_few}
 use Rattle.task_list_checks.proofs.Laws.{ascb_on, ascb_fail, ascb_end}
 use Rattle.task_list_checks.proofs.ascending.Goals as goal
 
-pub bounds-q-i : goal.bounds-q-i
-bounds-q-i c =
-    let g : length c.args.q.ids ≡ places = search rules in
-    omega (arith, items_few c.args.q g)
-
-pub bounds-q-i-in-loop-i : goal.bounds-q-i-in-loop-i
-bounds-q-i-in-loop-i c =
-    let g : length c.args.q.ids ≡ places = search rules in
-    omega (arith, items_few c.args.q g)
-
 pub returns-then-b-a : goal.returns-then-b-a
 returns-then-b-a c =
     let l = c.loop-i in
-    sym (ascb_fail c.args.q (key_of c.args.keys) l.i (omega arith) (omega arith) (omega arith)) ∙ l.invariant.1
-
-pub overflow_add-i : goal.overflow_add-i
-overflow_add-i c =
-    let l = c.loop-i in
-    search rules
+    sym (ascb_fail c.args.q (key_of c.args.keys) l.i (omega arith) (omega arith) (omega arith)) ∙ l.invariant
 
 pub loop-i-preserved : goal.loop-i-preserved
 loop-i-preserved c =
     let l = c.loop-i in
-    (search rules, sym (ascb_on c.args.q (key_of c.args.keys) l.i (omega arith) (omega arith) (omega arith)) ∙ l.invariant.1)
+    sym (ascb_on c.args.q (key_of c.args.keys) l.i (omega arith) (omega arith) (omega arith)) ∙ l.invariant
 
 pub returns : goal.returns
 returns c =
-    sym (ascb_end c.args.q (key_of c.args.keys) c.loop-i.i (omega arith)) ∙ c.loop-i.invariant.1
+    sym (ascb_end c.args.q (key_of c.args.keys) c.loop-i.i (omega arith)) ∙ c.loop-i.invariant

@@ -10,18 +10,13 @@ use Rattle.task_list_checks.proofs.count_in.Goals.{then-j-lt-PLACES, else-j-lt-P
 pub loop-i-init : goal.loop-i-init
 loop-i-init c = (search rules, search rules, refl)
 
-pub bounds-q-i : goal.bounds-q-i
-bounds-q-i c =
-    let g : length c.args.q.ids ≡ places = search rules in
-    omega (arith, items_few c.args.q g)
-
 pub loop-i-preserved : goal.loop-i-preserved
 loop-i-preserved c =
     let l = c.loop-i in
     let h : l.i < length (items c.args.q) = omega arith in (
       search rules,
       elim c.if-j-lt-PLACES.branch [ then-j-lt-PLACES w ↦ ap length w.r-is ∙ simp length-set l.invariant.1 | else-j-lt-PLACES w ↦ ap length w.r-is ∙ l.invariant.1 ],
-      elim c.if-j-lt-PLACES.branch [ then-j-lt-PLACES w ↦ rw (w.r-is, w.wrapping_add_u8.ensures.value) (sym (counted_step c.args.q l.r l.i h) ∙ l.invariant.2) | else-j-lt-PLACES w ↦ rw w.r-is (sym (counted_skip c.args.q l.r l.i h (omega (arith, w.if-j-lt-PLACES.false))) ∙ l.invariant.2) ],
+      elim c.if-j-lt-PLACES.branch [ then-j-lt-PLACES w ↦ rw (w.r-is) (sym (counted_step c.args.q l.r l.i h) ∙ l.invariant.2) | else-j-lt-PLACES w ↦ rw w.r-is (sym (counted_skip c.args.q l.r l.i h (omega (arith, w.if-j-lt-PLACES.false))) ∙ l.invariant.2) ],
     )
 
 pub returns : goal.returns

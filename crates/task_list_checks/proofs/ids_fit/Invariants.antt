@@ -6,7 +6,4 @@ use Rattle.task_lists.specs.TaskList.{id_fits_by}
 use Rattle.task_list_checks.proofs.ids_fit.Given as goal
 
 abbrev pub invariant-loop-i : goal.invariant-loop-i
-invariant-loop-i l = (l.i ≤ task_places) × (l.fits ≡ allb l.i (id_fits_by l.ids l.used l.tasks))
-
-abbrev pub decreases-loop-i : goal.decreases-loop-i
-decreases-loop-i l = task_places - l.i
+invariant-loop-i l = l.fits ≡ allb l.i (id_fits_by l.ids l.used l.tasks)

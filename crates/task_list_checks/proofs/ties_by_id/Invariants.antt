@@ -5,7 +5,4 @@ use Rattle.task_lists.specs.TaskList.{items, key_of}
 use Rattle.task_list_checks.proofs.ties_by_id.Given as goal
 
 abbrev pub invariant-loop-i : goal.invariant-loop-i
-invariant-loop-i l = (0 < l.i) × (tiesb (key_of l.keys) (drop (l.i - 1) (items l.q)) ≡ tiesb (key_of l.keys) (items l.q))
-
-abbrev pub decreases-loop-i : goal.decreases-loop-i
-decreases-loop-i l = l.n - l.i
+invariant-loop-i l = tiesb (key_of l.keys) (drop (l.i - 1) (items l.q)) ≡ tiesb (key_of l.keys) (items l.q)

@@ -6,7 +6,4 @@ use Rattle.task_lists.specs.TaskList.{used_at}
 use Rattle.task_list_checks.proofs.used_places.Given as goal
 
 abbrev pub invariant-loop-i : goal.invariant-loop-i
-invariant-loop-i l = (l.i ≤ task_places) × (l.f ≡ so_far task_places (used_at l.n) 0 l.i)
-
-abbrev pub decreases-loop-i : goal.decreases-loop-i
-decreases-loop-i l = task_places - l.i
+invariant-loop-i l = l.f ≡ so_far task_places (used_at l.n) 0 l.i

@@ -18,13 +18,7 @@ pub levels-init : goal.levels-init
 levels-init c = (search rules, refl)
 
 pub waits-init : goal.waits-init
-waits-init c = (search rules, refl)
-
-pub bounds-w-i : goal.bounds-w-i
-bounds-w-i c =
-    let w = c.waiters_of-w.result in
-    let g : length w.ids ≡ places = search rules in
-    omega (arith, items_few w g)
+waits-init c = refl
 
 pub waits-preserved : goal.waits-preserved
 waits-preserved c =
@@ -33,7 +27,7 @@ waits-preserved c =
     let l = c.levels in
     let i = c.waits in
     let k = c.key_in.ensures in
-    (search rules, sym (first_miss w (key_of a.keys) l.l i.i (omega arith) (λ e. c.if-key_in-l.false (k ∙ e))) ∙ i.invariant.1)
+    sym (first_miss w (key_of a.keys) l.l i.i (omega arith) (λ e. c.if-key_in-l.false (k ∙ e))) ∙ i.invariant
 
 pub levels-preserved : goal.levels-preserved
 levels-preserved c =
@@ -42,7 +36,7 @@ levels-preserved c =
     let l = c.levels in
     let i = c.waits in
     let f = key_of a.keys in
-    let none_here = sym i.invariant.1 ∙ first_end w f l.l i.i (omega arith) in
+    let none_here = sym i.invariant ∙ first_end w f l.l i.i (omega arith) in
     (search rules, ap id_of (sym (from_miss f l.l _ c.if-l-ge-LEVELS.false none_here)) ∙ l.invariant.1)
 
 pub returns-then-l-ge-LEVELS : goal.returns-then-l-ge-LEVELS
@@ -60,6 +54,6 @@ returns-then-key_in-l c =
     let i = c.waits in
     let f = key_of a.keys in
     let k = c.key_in.ensures in
-    let found = sym i.invariant.1 ∙ first_hit w.result f l.l i.i (omega arith) (sym k ∙ c.if-key_in-l.true) in
+    let found = sym i.invariant ∙ first_hit w.result f l.l i.i (omega arith) (sym k ∙ c.if-key_in-l.true) in
     sym (from_hit f l.l _ _ c.if-l-ge-LEVELS.false found) ∙ l.invariant.1
     ∙ best_of_lem a.q w.result a.kinds a.objects a.keys a.kind a.object w.ensures

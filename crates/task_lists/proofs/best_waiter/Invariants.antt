@@ -8,10 +8,7 @@ use Rattle.task_lists.specs.TaskList.{items, key_of, id_of}
 use Rattle.task_lists.proofs.best_waiter.Given as goal
 
 abbrev pub invariant-waits : goal.invariant-waits
-invariant-waits l = (l.i ≤ l.n) × (first_at (key_of l.keys) l.l (drop l.i (items l.w)) ≡ first_at (key_of l.keys) l.l (items l.w))
-
-abbrev pub decreases-waits : goal.decreases-waits
-decreases-waits l = l.n - l.i
+invariant-waits l = first_at (key_of l.keys) l.l (drop l.i (items l.w)) ≡ first_at (key_of l.keys) l.l (items l.w)
 
 abbrev pub invariant-levels : goal.invariant-levels
 invariant-levels l =

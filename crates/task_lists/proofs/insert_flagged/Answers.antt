@@ -11,13 +11,7 @@ use Rattle.task_lists.proofs.insert_flagged.Goals as goal
 use Rattle.task_lists.proofs.insert_flagged.Goals.{then-key_in-eq1, else-key_in-eq1}
 
 pub loop-i-init : goal.loop-i-init
-loop-i-init c = (search rules, search rules, refl)
-
-pub bounds-order-i : goal.bounds-order-i
-bounds-order-i c =
-    let q = c.args.order in
-    let g : length q.ids ≡ places = search rules in
-    omega (arith, items_few q g)
+loop-i-init c = refl
 
 pub loop-i-preserved : goal.loop-i-preserved
 loop-i-preserved c =
@@ -28,14 +22,14 @@ loop-i-preserved c =
     elim c.if-key_in-eq1.branch [
       | then-key_in-eq1 w ↦
           let f = flagged_on a.keys a.flags a.order l.i (first_ids l.ids l.k) h (sym k ∙ w.if-key_in-eq1.true) in
-          (omega arith, rw w.ids-is w.insert_in-k.ensures.0, rw (w.ids-is, w.k-is, w.insert_in-k.ensures.1, w.key_in-then-key_in-eq1.ensures) (sym f ∙ l.invariant.2))
+          rw (w.ids-is, w.k-is, w.insert_in-k.ensures, w.key_in-then-key_in-eq1.ensures) (sym f ∙ l.invariant)
       | else-key_in-eq1 w ↦
           let f = flagged_off a.keys a.flags a.order l.i (first_ids l.ids l.k) h (λ e. w.if-key_in-eq1.false (k ∙ e)) in
-          (omega arith, rw w.ids-is l.invariant.1, rw (w.ids-is, w.k-is) (sym f ∙ l.invariant.2))
+          rw (w.ids-is, w.k-is) (sym f ∙ l.invariant)
     ]
 
 pub returns : goal.returns
 returns c =
     let a = c.args in
     let l = c.loop-i in
-    sym (flagged_end a.keys a.flags a.order l.i (first_ids l.ids l.k) (omega arith)) ∙ l.invariant.2
+    sym (flagged_end a.keys a.flags a.order l.i (first_ids l.ids l.k) (omega arith)) ∙ l.invariant

@@ -1,60 +1,8 @@
--- `task_lists::keep_flagged` meets its contract. The loop: the ids written and their count are the list of those of the items passed whose flag is v.
-use borrow.Author.Rules.{rules}
-use borrow.Author.Tests.{eq-eqb, ne_eqb}
-use mathlib.Core.Path.{◌≡◌, sym, ◌∙◌}
-use mathlib.Core.Bool.{Bool}
-use Prim.Native.Nat.{◌<◌, ℕ}
-use native.Mathlib.Omega.{arith}
-use lib.Dec.{eqb}
-use lib.ListN.{length}
-use lib.Seq.{take-length}
-use Rattle.task_lists.specs.TaskList.{items, key_of, kept, places}
-use Rattle.task_lists.specs.ItemLaws.{items_few}
-use Rattle.task_lists.proofs.Laws.{keep_start, keep_room, keep_on, keep_off}
+-- `task_lists::keep_flagged` meets its contract. Assumes nothing.
+use Rattle.std.proofs.Common.{eqb, rules}
+use Rattle.task_lists.specs.TaskList.{key_of, kept}
 use Rattle.task_lists.proofs.keep_flagged.Goals as goal
-use Rattle.task_lists.proofs.keep_flagged.Goals.{then-key_in-v, else-key_in-v}
-
-pub loop-i-init : goal.loop-i-init
-loop-i-init c = (search rules, keep_start c.args.q _)
-
-pub bounds-q-i : goal.bounds-q-i
-bounds-q-i c =
-    let q = c.args.q in
-    let g : length q.ids ≡ places = search rules in
-    omega (arith, items_few q g)
-
-pub bounds-ids-k : goal.bounds-ids-k
-bounds-ids-k c =
-    let q = c.args.q in
-    let l = c.loop-i in
-    let g : length q.ids ≡ places = search rules in
-    omega (arith, items_few q g, keep_room q _ l.i l.ids l.k l.invariant.1)
-
-pub overflow_add-k : goal.overflow_add-k
-overflow_add-k c = omega (arith, bounds-ids-k c)
-
-pub loop-i-preserved : goal.loop-i-preserved
-loop-i-preserved c =
-    let a = c.args in
-    let l = c.loop-i in
-    let p : ℕ → Bool = λ y. eqb (key_of a.flags y) a.v in
-    let h : l.i < length (items a.q) = omega arith in
-    let g : length a.q.ids ≡ places = search rules in
-    let k = c.key_in.ensures in (
-      search rules,
-      elim c.if-key_in-v.branch [ then-key_in-v w ↦ rw (w.ids-is, w.k-is) (keep_on a.q p l.i l.ids l.k l.invariant.1 h g (eq-eqb _ _ (sym k ∙ w.if-key_in-v.true))) | else-key_in-v w ↦ rw (w.ids-is, w.k-is) (keep_off a.q p l.i l.ids l.k l.invariant.1 h (ne_eqb _ _ (λ e. w.if-key_in-v.false (k ∙ e)))) ],
-    )
-
-pub overflow_cast-result : goal.overflow_cast-result
-overflow_cast-result c =
-    let q = c.args.q in
-    let l = c.loop-i in
-    let g : length q.ids ≡ places = search rules in
-    omega (arith, items_few q g, keep_room q _ l.i l.ids l.k l.invariant.1)
 
 pub returns : goal.returns
 unfolding kept
-returns c =
-    let q = c.args.q in
-    let e : c.loop-i.i ≡ length (items q) = omega arith in
-    c.loop-i.invariant.1 ∙ rw (e, take-length (items q))
+returns c = (let a = c.args in c.keep_where.ensures (λ y. eqb (key_of a.flags y) a.v) (λ x b e. search rules))

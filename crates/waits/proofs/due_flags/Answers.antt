@@ -1,6 +1,6 @@
 -- `waits::due_flags` meets its contract. Assumes nothing.
 use borrow.Author.Rules.{rules}
-use Rattle.std.proofs.Common.{◌-◌, arith, rules}
+use Rattle.std.proofs.Common.{arith, rules}
 use Rattle.lists.specs.FillLaws.{fill_done, fill_more, fill_none}
 use Rattle.rules.specs.Sizes.{task_places}
 use Rattle.machine.specs.Machine.{due_flag}

@@ -6,7 +6,4 @@ use Rattle.rules.specs.Sizes.{task_places}
 use Rattle.walks.proofs.levels_of.Given as goal
 
 abbrev pub invariant-loop-j : goal.invariant-loop-j
-invariant-loop-j l = (l.j ≤ l.n) × (l.j ≤ task_places) × (l.l ≡ raised l.own l.next l.n l.j)
-
-abbrev pub decreases-loop-j : goal.decreases-loop-j
-decreases-loop-j l = l.n - l.j
+invariant-loop-j l = l.l ≡ raised l.own l.next l.n l.j

@@ -7,7 +7,4 @@ use Rattle.rules.specs.Sizes.{task_places}
 use Rattle.settle.proofs.tables.both.Given as goal
 
 abbrev pub invariant-loop-i : goal.invariant-loop-i
-invariant-loop-i l = (l.i ≤ task_places) × (l.f ≡ so_far task_places (both_flag l.a l.b) 0 l.i)
-
-abbrev pub decreases-loop-i : goal.decreases-loop-i
-decreases-loop-i l = task_places - l.i
+invariant-loop-i l = l.f ≡ so_far task_places (both_flag l.a l.b) 0 l.i

@@ -1,12 +1,9 @@
 -- `waits::columns::times_cleared` meets its contract. Assumes nothing.
-use Rattle.std.proofs.Common.{◌≡◌, ◌-◌, ◌≤◌}
+use Rattle.std.proofs.Common.{◌≡◌}
 use Rattle.lists.specs.FillLaws.{so_far}
 use Rattle.rules.specs.Sizes.{task_places}
 use Rattle.machine.specs.Machine.{flagged_at}
 use Rattle.waits.proofs.columns.times_cleared.Given as goal
 
 abbrev pub invariant-loop-i : goal.invariant-loop-i
-invariant-loop-i l = (l.i ≤ task_places) × (l.r ≡ so_far task_places (flagged_at l.flags (λ j. 0) l.column) 0 l.i)
-
-abbrev pub decreases-loop-i : goal.decreases-loop-i
-decreases-loop-i l = task_places - l.i
+invariant-loop-i l = l.r ≡ so_far task_places (flagged_at l.flags (λ j. 0) l.column) 0 l.i
