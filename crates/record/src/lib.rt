@@ -79,7 +79,7 @@ pub const FOREVER: u32 = 4294967295;
 
 // The tasks, one place in each table for each. `due` is the clock at which a timed wait ends.
 #[repr(C)]
-#[derive(Clone, Copy)]
+#[derive(Clone, Copy, PartialEq, Eq)]
 pub struct Tasks {
     pub due: [u32; TASKS],
     pub priority: [u8; TASKS],
@@ -92,7 +92,7 @@ pub struct Tasks {
 }
 
 #[repr(C)]
-#[derive(Clone, Copy)]
+#[derive(Clone, Copy, PartialEq, Eq)]
 pub struct Mutexes {
     pub kind: [u8; MUTEXES],
     pub owner: [u8; MUTEXES],
@@ -100,7 +100,7 @@ pub struct Mutexes {
 }
 
 #[repr(C)]
-#[derive(Clone, Copy)]
+#[derive(Clone, Copy, PartialEq, Eq)]
 pub struct Semaphores {
     pub count: [u32; SEMAPHORES],
     pub maximum: [u32; SEMAPHORES],
@@ -110,7 +110,7 @@ pub struct Semaphores {
 // The message queues. Their words lie in a lent block, in order of id, a queue's messages in a ring: `oldest` is the ring place of the oldest one,
 // and `used` says how many there are.
 #[repr(C)]
-#[derive(Clone, Copy)]
+#[derive(Clone, Copy, PartialEq, Eq)]
 pub struct Queues {
     pub width: [u8; QUEUES],
     pub depth: [u8; QUEUES],
@@ -121,7 +121,7 @@ pub struct Queues {
 }
 
 #[repr(C)]
-#[derive(Clone, Copy)]
+#[derive(Clone, Copy, PartialEq, Eq)]
 pub struct State {
     pub tasks: Tasks,
     pub semaphores: Semaphores,
@@ -137,7 +137,7 @@ pub struct State {
 
 // The record with the words that tasks hold, eight for each. The words stand beside the record: no step moves them by value.
 #[repr(C)]
-#[derive(Clone, Copy)]
+#[derive(Clone, Copy, PartialEq, Eq)]
 pub struct Held {
     pub state: State,
     pub words: [u32; WORDS],
