@@ -25,60 +25,27 @@ fn parse(rt: &impl Print, s: &[u8]) -> io::Result<()> {
     }
 }
 
-fn parse_each(rt: &impl Print, list: &[&[u8]]) -> io::Result<()> {
-    for s in list {
+// Each line of a list.
+fn parse_each(rt: &impl Print, list: &[u8]) -> io::Result<()> {
+    for s in list.split(|byte| *byte == b'\n') {
         parse(rt, s)?;
     }
     Ok(())
 }
 
 pub fn parsing(rt: &impl Print) -> io::Result<()> {
+    parse_each(rt, b"\n00\n01\n+1\n-1\n 1\n1 \n1a\n/\n:\n\x00\n\xff\n1\xff")?;
     parse_each(
         rt,
-        &[
-            b"", b"00", b"01", b"+1", b"-1", b" 1", b"1 ", b"1a", b"/", b":", b"\x00", b"\xff",
-            b"1\xff",
-        ],
+        b"0\n9\n10\n99\n100\n999\n1000\n9999\n10000\n99999\n100000\n999999\n1000000",
     )?;
     parse_each(
         rt,
-        &[
-            b"0",
-            b"9",
-            b"10",
-            b"99",
-            b"100",
-            b"999",
-            b"1000",
-            b"9999",
-            b"10000",
-            b"99999",
-            b"100000",
-            b"999999",
-            b"1000000",
-            b"9999999",
-            b"10000000",
-            b"99999999",
-            b"100000000",
-            b"999999999",
-            b"1000000000",
-        ],
+        b"9999999\n10000000\n99999999\n100000000\n999999999\n1000000000",
     )?;
-    parse_each(
-        rt,
-        &[
-            b"2147483647",
-            b"2147483648",
-            b"4294967294",
-            b"4294967295",
-            b"4294967296",
-            b"4294967305",
-            b"9999999999",
-            b"10000000000",
-            b"18446744073709551616",
-            b"99999999999999999999",
-        ],
-    )
+    parse_each(rt, b"2147483647\n2147483648\n4294967294\n4294967295")?;
+    parse_each(rt, b"4294967296\n4294967305\n9999999999\n10000000000")?;
+    parse_each(rt, b"18446744073709551616\n99999999999999999999")
 }
 
 // v written at a place of eight bytes.
