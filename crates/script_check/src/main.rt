@@ -28,6 +28,7 @@ fn step(
 ) -> io::Result<State> {
     let mut log = [0u8; LINE];
     let r = run::run_line(s, line, words, block, &mut log);
+    // `&log[..r.written]`: tried and the proof didn't close, as no clause bounds `written`; so here and below
     rt.write_all(cut::part(&log, 0, r.written))?;
     Ok(r.state)
 }

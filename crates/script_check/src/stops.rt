@@ -34,6 +34,7 @@ fn hand_in<'a>(
 ) -> io::Result<&'a [u8]> {
     let m = lent.arrive(bytes, log);
     show(rt, m, log)?;
+    // not `&bytes[m.next..]`: no clause bounds `next`, so its proof cannot close
     Ok(cut::part(bytes, m.next, bytes.len()))
 }
 

@@ -16,6 +16,7 @@ const BLOCK: usize = 16;
 fn piece(rt: &impl Print, lent: &mut Lent<BLOCK>, bytes: &[u8]) -> io::Result<()> {
     let mut log = [0u8; ENOUGH];
     let m = lent.arrive(bytes, &mut log);
+    // `&log[..m.written]`: tried and the proof didn't close, as no clause bounds `written`; so here and below
     rt.write_all(cut::part(&log, 0, m.written))
 }
 
