@@ -1,7 +1,5 @@
 // A record with all that a step is lent beside it: the words that tasks hold, and a block of which a step sees the first `space` words.
-ghost use Rattle.std.specs.Prelude.{◌≤◌};
-
-use record::{Answer, Out, Request, State, WORDS};
+use record::{Answer, Request, State, WORDS};
 
 // Room for a queue of the greatest depth, and a little beside it.
 pub const ROOM: usize = 72;
@@ -9,7 +7,7 @@ pub const ROOM: usize = 72;
 // What a block holds before the first message, so that it shows which words were written.
 pub const BLANK: u32 = 7;
 
-#[derive(Clone, Copy)]
+#[derive(Clone, Copy, PartialEq, Eq)]
 pub struct Kept {
     pub state: State,
     pub words: [u32; WORDS],
@@ -17,66 +15,34 @@ pub struct Kept {
     pub space: usize,
 }
 
-// What a step leaves, and its answer.
-#[derive(Drop)]
-pub struct After {
-    pub kept: Kept,
-    pub answer: Answer,
-}
-
-// A record whose tasks hold no words, with a block.
-pub fn with_block(s: State, space: usize) -> Kept {
-    Kept {
-        state: s,
-        words: [0u32; WORDS],
-        block: [BLANK; ROOM],
-        space: space,
+impl Kept {
+    // A record whose tasks hold no words, with a block.
+    pub fn with_block(state: State, space: usize) -> Kept {
+        Kept {
+            state,
+            words: [0; WORDS],
+            block: [BLANK; ROOM],
+            space,
+        }
     }
-}
 
-pub fn fresh(space: usize) -> Kept {
-    with_block(record::fresh(), space)
-}
-
-// How much of a block of so many words a step is lent.
-fn part(space: usize, all: usize) -> usize
-    ensures { result ≤ all }
-{
-    if space < all {
-        return space;
+    pub fn fresh(space: usize) -> Kept {
+        Kept::with_block(record::fresh(), space)
     }
-    all
-}
 
-// The step, lent the first words of the block only.
-fn lent(
-    s: State,
-    x: Request,
-    message: &[u32],
-    words: &mut [u32],
-    block: &mut [u32],
-    space: usize,
-) -> Out {
-    let n = part(space, block.len());
-    kernel::step(s, x, message, words, &mut block[..n])
-}
+    // A step with its message, lent the first words of the block only.
+    pub fn step(&mut self, x: Request, message: &[u32]) -> Answer {
+        let n = self.space.min(ROOM);
+        let block = &mut self.block[..];
+        let out = kernel::step(self.state, x, message, &mut self.words, &mut block[..n]);
+        self.state = out.state;
+        out.answer
+    }
 
-pub fn step(k: Kept, x: Request, message: &[u32]) -> After {
-    let s = k.state;
-    let space = k.space;
-    let mut words = k.words;
-    let mut block = k.block;
-    let o = lent(s, x, message, &mut words, &mut block, space);
-    let next = o.state;
-    let a = o.answer;
-    let then = Kept {
-        state: next,
-        words: words,
-        block: block,
-        space: space,
-    };
-    After {
-        kept: then,
-        answer: a,
+    // Steps without a message, whose answers are not shown.
+    pub fn quietly(&mut self, steps: &[Request]) {
+        for x in steps {
+            self.step(*x, &[]);
+        }
     }
 }

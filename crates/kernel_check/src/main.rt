@@ -7,7 +7,6 @@ mod edges;
 mod kept;
 mod messages;
 mod queue_refusals;
-mod records;
 mod run;
 mod show;
 

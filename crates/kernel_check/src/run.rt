@@ -1,78 +1,85 @@
-// Steps of a row, one after another: each takes what the one before it left, and shows its answer on a line of its own.
+// Steps of a row, one after another: each goes on from what the one before it left, and shows its answer on a line of its own.
 use crate::kept::Kept;
-use crate::{kept, show};
+use crate::show::Shown;
 use record::Request;
 use std::io;
 
-fn told(rt: &impl Print, k: Kept, x: Request, message: &[u32]) -> io::Result<Kept> {
-    let o = kept::step(k, x, message);
-    let a = o.answer;
-    show::answer(rt, a)?;
-    show::text(rt, b"\n")?;
-    let next = o.kept;
-    Ok(next)
+#[derive(Drop)]
+pub struct Row<'a, R> {
+    rt: &'a R,
+    kept: Kept,
 }
 
-// A step without a message.
-pub fn ask(rt: &impl Print, k: Kept, x: Request) -> io::Result<Kept> {
-    told(rt, k, x, &[0u32; 0])
-}
+impl<'a, R: Print> Row<'a, R> {
+    pub fn new(rt: &'a R, kept: Kept) -> Row<'a, R> {
+        Row { rt, kept }
+    }
 
-pub fn send(rt: &impl Print, k: Kept, queue: u32, time: u32, message: &[u32]) -> io::Result<Kept> {
-    let x = Request::Send {
-        queue: queue,
-        time: time,
-    };
-    told(rt, k, x, message)
-}
+    fn tell(&mut self, x: Request, message: &[u32]) -> io::Result<()> {
+        let answer = self.kept.step(x, message);
+        println!(self.rt; "{}", Shown(answer))
+    }
 
-pub fn receive(rt: &impl Print, k: Kept, queue: u32, time: u32) -> io::Result<Kept> {
-    let x = Request::Receive {
-        queue: queue,
-        time: time,
-    };
-    ask(rt, k, x)
-}
+    // A step without a message.
+    pub fn ask(&mut self, x: Request) -> io::Result<()> {
+        self.tell(x, &[])
+    }
 
-pub fn task(rt: &impl Print, k: Kept, priority: u32) -> io::Result<Kept> {
-    ask(rt, k, Request::Task { priority: priority })
-}
+    // Such steps one after another.
+    pub fn ask_each(&mut self, steps: &[Request]) -> io::Result<()> {
+        for x in steps {
+            self.ask(*x)?;
+        }
+        Ok(())
+    }
 
-pub fn queue(rt: &impl Print, k: Kept, width: u32, depth: u32) -> io::Result<Kept> {
-    let x = Request::Queue {
-        width: width,
-        depth: depth,
-    };
-    ask(rt, k, x)
-}
+    pub fn send(&mut self, queue: u32, time: u32, message: &[u32]) -> io::Result<()> {
+        self.tell(Request::Send { queue, time }, message)
+    }
 
-pub fn owned_queue(
-    rt: &impl Print,
-    k: Kept,
-    width: u32,
-    depth: u32,
-    owner: u32,
-) -> io::Result<Kept> {
-    let x = Request::OwnedQueue {
-        width: width,
-        depth: depth,
-        owner: owner,
-    };
-    ask(rt, k, x)
-}
+    pub fn receive(&mut self, queue: u32, time: u32) -> io::Result<()> {
+        self.ask(Request::Receive { queue, time })
+    }
 
-// What follows is asked about a record, and leaves it as it is.
-pub fn level(rt: &impl Print, k: Kept, task: u32) -> io::Result<()> {
-    ask(rt, k, Request::Level { task: task })?;
-    Ok(())
-}
+    pub fn task(&mut self, priority: u32) -> io::Result<()> {
+        self.ask(Request::Task { priority })
+    }
 
-pub fn outcome(rt: &impl Print, k: Kept, task: u32) -> io::Result<()> {
-    ask(rt, k, Request::Outcome { task: task })?;
-    Ok(())
-}
+    pub fn queue(&mut self, width: u32, depth: u32) -> io::Result<()> {
+        self.ask(Request::Queue { width, depth })
+    }
 
-pub fn word(rt: &impl Print, k: Kept, task: u32, n: u32) -> io::Result<()> {
-    ask(rt, k, Request::Word { task: task, n: n })?;
-    Ok(())
+    pub fn owned_queue(&mut self, width: u32, depth: u32, owner: u32) -> io::Result<()> {
+        self.ask(Request::OwnedQueue {
+            width,
+            depth,
+            owner,
+        })
+    }
+
+    pub fn level(&mut self, task: u32) -> io::Result<()> {
+        self.ask(Request::Level { task })
+    }
+
+    pub fn outcome(&mut self, task: u32) -> io::Result<()> {
+        self.ask(Request::Outcome { task })
+    }
+
+    pub fn word(&mut self, task: u32, n: u32) -> io::Result<()> {
+        self.ask(Request::Word { task, n })
+    }
+
+    // The words of the block that steps are lent.
+    pub fn block(&self) -> io::Result<()> {
+        print!(self.rt; "block")?;
+        for word in self.kept.block.iter().take(self.kept.space) {
+            print!(self.rt; " {word}")?;
+        }
+        println!(self.rt)
+    }
+
+    // The depth of holds.
+    pub fn hold(&self) -> io::Result<()> {
+        println!(self.rt; "{}", self.kept.state.hold)
+    }
 }

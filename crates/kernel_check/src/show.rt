@@ -1,65 +1,27 @@
-// Writes to standard output.
-use crate::kept::{Kept, ROOM};
-use record::Answer;
-use std::io;
+// Answers as they are shown.
+use record::{Answer, NONE};
+use std::{fmt, io};
 
-pub fn text(rt: &impl Print, s: &[u8]) -> io::Result<()> {
-    rt.write_all(s)
-}
+// An answer as in a log line: number, value and task to run.
+#[derive(Clone, Copy)]
+pub struct Shown(pub Answer);
 
-pub fn number(rt: &impl Print, n: u64) -> io::Result<()> {
-    rt.print(n)
-}
-
-pub fn byte(rt: &impl Print, n: u8) -> io::Result<()> {
-    number(rt, n as u64)
-}
-
-fn fields(rt: &impl Print, number_: u8, value: u32, run: u8) -> io::Result<()> {
-    byte(rt, number_)?;
-    text(rt, b" ")?;
-    number(rt, value as u64)?;
-    text(rt, b" ")?;
-    if run == record::NONE {
-        return text(rt, b"-");
-    }
-    byte(rt, run)
-}
-
-// Number, value and task to run, as in a log line.
-pub fn answer(rt: &impl Print, a: Answer) -> io::Result<()> {
-    match a {
-        Answer::Accepted { number, value, run } => fields(rt, number, value, run),
-        Answer::Refused { number, value, run } => fields(rt, number, value, run),
-    }
-}
-
-// Is all as it was before the step?
-pub fn stayed(rt: &impl Print, same: bool) -> io::Result<()> {
-    if same {
-        return text(rt, b" unchanged\n");
-    }
-    text(rt, b" changed\n")
-}
-
-fn word(rt: &impl Print, n: u32) -> io::Result<()> {
-    text(rt, b" ")?;
-    number(rt, n as u64)
-}
-
-fn words(rt: &impl Print, block: [u32; ROOM], n: usize) -> io::Result<()> {
-    for i in 0..ROOM {
-        if i < n {
-            word(rt, block[i])?;
+impl fmt::Display for Shown {
+    fn fmt<W: fmt::Write>(&self, f: &mut fmt::Formatter<W>) -> fmt::Result {
+        match self.0 {
+            Answer::Accepted { number, value, run } | Answer::Refused { number, value, run } => {
+                write!(f, "{number} {value} ")?;
+                if run == NONE {
+                    return f.write_str("-");
+                }
+                write!(f, "{run}")
+            }
         }
     }
-    Ok(())
 }
 
-// The words of the block that steps are lent.
-pub fn block(rt: &impl Print, k: Kept) -> io::Result<()> {
-    text(rt, b"block")?;
-    let b = k.block;
-    words(rt, b, k.space)?;
-    text(rt, b"\n")
+// The answer of a step, and whether all is as it was before it.
+pub fn stayed(rt: &impl Print, label: &str, answer: Answer, same: bool) -> io::Result<()> {
+    let change = if same { "unchanged" } else { "changed" };
+    println!(rt; "{label}: {} {change}", Shown(answer))
 }

@@ -4,43 +4,33 @@
 use reader::whole;
 use std::io;
 
-fn put(rt: &impl Print, s: &[u8]) -> io::Result<()> {
-    rt.write_all(s)
-}
-
-fn number(rt: &impl Print, n: usize) -> io::Result<()> {
-    rt.print(n)
-}
-
+// The bytes between brackets: not every line is text.
 fn quoted(rt: &impl Print, s: &[u8]) -> io::Result<()> {
-    put(rt, b" [")?;
-    put(rt, s)?;
-    put(rt, b"]")
+    print!(rt; " [")?;
+    rt.write_all(s)?;
+    print!(rt; "]")
 }
 
 // How many lines the text has, the first one; then each of them, and one place more.
 fn lines(rt: &impl Print, text: &[u8]) -> io::Result<()> {
     let n = whole::count_lines(text);
-    number(rt, n)?;
+    print!(rt; "{n}")?;
     quoted(rt, reader::first_line(text))?;
-    put(rt, b":")?;
-    for i in 0..n {
+    print!(rt; ":")?;
+    for i in 0..=n {
         quoted(rt, whole::nth_line(text, i))?;
     }
-    quoted(rt, whole::nth_line(text, n))?;
-    put(rt, b"\n")
+    println!(rt)
 }
 
 // What a reader at a place says, and where the next line begins.
 fn place(rt: &impl Print, text: &[u8], at: usize) -> io::Result<()> {
-    number(rt, at)?;
+    print!(rt; "{at}")?;
     if reader::ended_at(text, at) {
-        put(rt, b" ended")?;
+        print!(rt; " ended")?;
     }
     quoted(rt, reader::line_at(text, at))?;
-    put(rt, b" ")?;
-    number(rt, reader::next_at(text, at))?;
-    put(rt, b"\n")
+    println!(rt; " {}", reader::next_at(text, at))
 }
 
 // Every place of a text, its end, and one past it.
@@ -48,17 +38,22 @@ fn places(rt: &impl Print) -> io::Result<()> {
     for at in 0..8 {
         place(rt, b"ab\n\ncd", at)?;
     }
-    place(rt, b"ab\n\ncd", 18446744073709551615)
+    place(rt, b"ab\n\ncd", usize::MAX)
 }
 
 fn main(rt: HostRuntime) -> io::Result<()> {
-    lines(&rt, b"")?;
-    lines(&rt, b"\n")?;
-    lines(&rt, b"a")?;
-    lines(&rt, b"a\n")?;
-    lines(&rt, b"a\nbc")?;
-    lines(&rt, b"a\nbc\n")?;
-    lines(&rt, b"\n\n")?;
-    lines(&rt, b"a\n\nbc\n\n")?;
+    let texts: [&[u8]; 8] = [
+        b"",
+        b"\n",
+        b"a",
+        b"a\n",
+        b"a\nbc",
+        b"a\nbc\n",
+        b"\n\n",
+        b"a\n\nbc\n\n",
+    ];
+    for text in texts {
+        lines(&rt, text)?;
+    }
     places(&rt)
 }

@@ -81,7 +81,7 @@ pub const FOREVER: u32 = 4294967295;
 
 // The tasks, one place in each table for each. `due` is the clock at which a timed wait ends.
 #[repr(C)]
-#[derive(Clone, Copy)]
+#[derive(Clone, Copy, PartialEq, Eq)]
 pub struct Tasks {
     pub due: [u32; TASKS],
     pub priority: [u8; TASKS],
@@ -94,7 +94,7 @@ pub struct Tasks {
 }
 
 #[repr(C)]
-#[derive(Clone, Copy)]
+#[derive(Clone, Copy, PartialEq, Eq)]
 pub struct Mutexes {
     pub kind: [u8; MUTEXES],
     pub owner: [u8; MUTEXES],
@@ -102,7 +102,7 @@ pub struct Mutexes {
 }
 
 #[repr(C)]
-#[derive(Clone, Copy)]
+#[derive(Clone, Copy, PartialEq, Eq)]
 pub struct Semaphores {
     pub count: [u32; SEMAPHORES],
     pub maximum: [u32; SEMAPHORES],
@@ -112,7 +112,7 @@ pub struct Semaphores {
 // The message queues. Their words lie in a lent block, in order of id, a queue's messages in a ring: `oldest` is the ring place of the oldest one,
 // and `used` says how many there are.
 #[repr(C)]
-#[derive(Clone, Copy)]
+#[derive(Clone, Copy, PartialEq, Eq)]
 pub struct Queues {
     pub width: [u8; QUEUES],
     pub depth: [u8; QUEUES],
@@ -123,7 +123,7 @@ pub struct Queues {
 }
 
 #[repr(C)]
-#[derive(Clone, Copy)]
+#[derive(Clone, Copy, PartialEq, Eq)]
 pub struct State {
     pub tasks: Tasks,
     pub semaphores: Semaphores,
@@ -139,7 +139,7 @@ pub struct State {
 
 // The record with the words that tasks hold, eight for each. The words stand beside the record: no step moves them by value.
 #[repr(C)]
-#[derive(Clone, Copy)]
+#[derive(Clone, Copy, PartialEq, Eq)]
 pub struct Held {
     pub state: State,
     pub words: [u32; WORDS],

@@ -2,6 +2,7 @@
 // sound; what they write is compared with the stored output.
 #![tactic(auto)]
 
+mod lent;
 mod stops;
 mod unsound;
 
@@ -17,22 +18,18 @@ const LINE: usize = 33;
 // The words of the lent block: too few for the deepest queue of the widest messages.
 const BLOCK: usize = 64;
 
-fn put(rt: &impl Print, log: &[u8], n: usize) -> io::Result<()> {
-    rt.write_all(cut::part(log, 0, n))
-}
-
-// The line that begins at `at`, and its log line written.
+// A line run, and its log line written.
 fn step(
     rt: &impl Print,
     s: State,
     words: &mut [u32],
     block: &mut [u32],
-    text: &[u8],
-    at: usize,
+    line: &[u8],
 ) -> io::Result<State> {
     let mut log = [0u8; LINE];
-    let r = run::run_line(s, reader::line_at(text, at), words, block, &mut log);
-    put(rt, &log, r.written)?;
+    let r = run::run_line(s, line, words, block, &mut log);
+    // `&log[..r.written]`: tried and the proof didn't close, as no clause bounds `written`; so here and below
+    rt.write_all(cut::part(&log, 0, r.written))?;
     Ok(r.state)
 }
 
@@ -40,14 +37,13 @@ fn step(
 fn replay(rt: &impl Print, text: &[u8]) -> io::Result<()> {
     let mut log = [0u8; LINE];
     let head = run::run_header(reader::first_line(text), &mut log);
-    put(rt, &log, head.map_or(0, |h| h.written))?;
+    rt.write_all(cut::part(&log, 0, head.map_or(0, |h| h.written)))?;
     let mut words = [0u32; WORDS];
     let mut block = [0u32; BLOCK];
     let mut s = record::fresh();
     let mut at = reader::next_at(text, 0);
-    let n = whole::count_lines(text);
-    for _ in 1..n {
-        s = step(rt, s, &mut words, &mut block, text, at)?;
+    for _ in 1..whole::count_lines(text) {
+        s = step(rt, s, &mut words, &mut block, reader::line_at(text, at))?;
         at = reader::next_at(text, at);
     }
     Ok(())

@@ -15,7 +15,7 @@ pub const NONE: u8 = 255;
 pub const LEVELS: u8 = 32;
 
 #[repr(C)]
-#[derive(Clone, Copy)]
+#[derive(Clone, Copy, PartialEq, Eq)]
 pub struct TaskList {
     pub ids: [u8; PLACES],
     pub n: u8,

@@ -1,53 +1,64 @@
 // Fields of a line and lines of a text.
-use crate::show;
+use crate::show::Quoted;
 use std::io;
 
 // Each field, and one place more.
 fn fields_of(rt: &impl Print, line: &[u8]) -> io::Result<()> {
-    show::text(rt, b"fields")?;
-    show::quoted(rt, line)?;
     let n = text::fields::count(line);
-    show::size(rt, n)?;
-    for i in 0..n {
-        show::quoted(rt, text::fields::nth(line, i))?;
+    print!(rt; "fields {} {n}", Quoted(line))?;
+    for i in 0..=n {
+        print!(rt; " {}", Quoted(text::fields::nth(line, i)))?;
     }
-    show::quoted(rt, text::fields::nth(line, n))?;
-    show::end(rt)
+    println!(rt)
 }
 
 pub fn fields(rt: &impl Print) -> io::Result<()> {
-    fields_of(rt, b"")?;
-    fields_of(rt, b"\t")?;
-    fields_of(rt, b"\t\t")?;
-    fields_of(rt, b"tick")?;
-    fields_of(rt, b"lock\t0\t10")?;
-    fields_of(rt, b"lock\t\t10")?;
-    fields_of(rt, b"\tlock")?;
-    fields_of(rt, b"lock\t")?;
-    fields_of(rt, b"a b\x00\xff\tc")
+    let lines: [&[u8]; 9] = [
+        b"",
+        b"\t",
+        b"\t\t",
+        b"tick",
+        b"lock\t0\t10",
+        b"lock\t\t10",
+        b"\tlock",
+        b"lock\t",
+        b"a b\x00\xff\tc",
+    ];
+    for line in lines {
+        fields_of(rt, line)?;
+    }
+    Ok(())
 }
 
+// Where each line begins and ends, and the line; then where the next one would begin.
 fn lines_of(rt: &impl Print, s: &[u8]) -> io::Result<()> {
-    show::text(rt, b"lines")?;
-    show::quoted(rt, s)?;
+    print!(rt; "lines {}", Quoted(s))?;
     let mut at = 0;
+    // a `for` is no plainer: each step is as long as its line
     while at < s.len() {
-        show::size(rt, at)?;
-        show::size(rt, text::lines::end(s, at))?;
-        show::quoted(rt, text::lines::line(s, at))?;
+        print!(rt;
+            " {at} {} {}",
+            text::lines::end(s, at),
+            Quoted(text::lines::line(s, at))
+        )?;
         at = text::lines::next(s, at);
     }
-    show::size(rt, text::lines::next(s, at))?;
-    show::end(rt)
+    println!(rt; " {}", text::lines::next(s, at))
 }
 
 pub fn lines(rt: &impl Print) -> io::Result<()> {
-    lines_of(rt, b"")?;
-    lines_of(rt, b"\n")?;
-    lines_of(rt, b"\n\n")?;
-    lines_of(rt, b"a")?;
-    lines_of(rt, b"a\n")?;
-    lines_of(rt, b"a\nb")?;
-    lines_of(rt, b"\na\n\nb\n")?;
-    lines_of(rt, b"\x00\xff\t\n\r\n")
+    let texts: [&[u8]; 8] = [
+        b"",
+        b"\n",
+        b"\n\n",
+        b"a",
+        b"a\n",
+        b"a\nb",
+        b"\na\n\nb\n",
+        b"\x00\xff\t\n\r\n",
+    ];
+    for s in texts {
+        lines_of(rt, s)?;
+    }
+    Ok(())
 }

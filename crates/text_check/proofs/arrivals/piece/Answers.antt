@@ -6,4 +6,4 @@ use Rattle.text_check.proofs.arrivals.piece.Goals as goal
 pub loop-at-smaller : goal.loop-at-smaller
 loop-at-smaller g c =
     let l = c.loop-at in
-    rw c.feed-f.ensures.answer (omega (arith, feed_on l.carry l.now_held c.args.bytes.now l.at c.loop-at-test.true))
+    rw c.feed-f.ensures.answer (omega (arith, feed_on l.carry l.held c.args.bytes.now l.at c.loop-at-test.true))
