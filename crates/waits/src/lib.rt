@@ -1,5 +1,5 @@
 // Waits in the table of tasks: they begin and end, flags name tasks by them, and one waiter is the best.
-#![tactic(auto, using(lists::specs::OperatorLaws::fits_amp, lists::specs::LoopLaws::all_none), unfolding(machine::specs::Machine::any_flag))]
+#![tactic(auto, using(lists::specs::OperatorLaws::fits_amp, lists::specs::LoopLaws::all_none), unfolding(machine::specs::Machine::timed_for, machine::specs::Machine::due_for, machine::specs::Machine::wait_begun, machine::specs::Machine::ended_where, machine::specs::Machine::single, machine::specs::Machine::due_now, machine::specs::Machine::waits_on, machine::specs::Machine::any_flag))]
 
 mod columns;
 
@@ -17,17 +17,14 @@ use task_lists::TaskList;
 pub fn due_at(clock: u32, ticks: u32) -> u32
     ensures { result ≡ due_at clock ticks }
 {
-    std::num::wrapping_add_u32(clock, ticks)
+    clock.wrapping_add(ticks)
 }
 
 // 1 for a wait that ends at a time.
 fn timed_for(time: u32) -> u8
     ensures { result ≡ timed_for time }
 {
-    if time == FOREVER {
-        return 0;
-    }
-    1
+    u8::from(time != FOREVER)
 }
 
 // The clock at which a wait ends that begins now; 0 where it ends at no time.
@@ -35,9 +32,10 @@ fn due_for(clock: u32, time: u32) -> u32
     ensures { result ≡ due_for clock time }
 {
     if time == FOREVER {
-        return 0;
+        0
+    } else {
+        due_at(clock, time)
     }
-    due_at(clock, time)
 }
 
 // Task `i` begins to wait, for so long from this clock on.
@@ -61,17 +59,12 @@ pub fn begin_wait(mut t: Tasks, i: u8, kind: u8, object: u8, clock: u32, time: u
 pub fn end_where(mut t: Tasks, flags: [u8; TASKS], slept: u8, other: u8) -> Tasks
     ensures { result ≡ ended_where t flags slept other }
 {
-    let outcome = t.outcome;
-    let kind = t.wait;
-    let object = t.object;
-    let timed = t.timed;
-    let due = t.due;
-    let left = columns::outcomes(outcome, &kind, &flags, slept, other);
-    let no_wait = columns::cleared(kind, &flags);
-    let no_object = columns::cleared(object, &flags);
-    let untimed = columns::cleared(timed, &flags);
-    let no_due = columns::times_cleared(due, &flags);
-    t.outcome = left;
+    let outcomes = columns::outcomes(t.outcome, &t.wait, &flags, slept, other);
+    let no_wait = columns::cleared(t.wait, &flags);
+    let no_object = columns::cleared(t.object, &flags);
+    let untimed = columns::cleared(t.timed, &flags);
+    let no_due = columns::times_cleared(t.due, &flags);
+    t.outcome = outcomes;
     t.wait = no_wait;
     t.object = no_object;
     t.timed = untimed;
@@ -95,13 +88,7 @@ pub fn only(i: u8) -> [u8; TASKS]
 fn due_flag(timed: u8, due: u32, clock: u32) -> u8
     ensures { result ≡ due_now timed due clock }
 {
-    if timed != 1 {
-        return 0;
-    }
-    if reads::ticks_left(due, clock) == 1 {
-        return 1;
-    }
-    0
+    u8::from((timed == 1) & (reads::ticks_left(due, clock) == 1))
 }
 
 // The tasks whose waits end at the next tick.
@@ -121,13 +108,7 @@ pub fn due_flags(t: Tasks, clock: u32) -> [u8; TASKS]
 fn waiter_flag(wait: u8, at: u8, kind: u8, object: u8) -> u8
     ensures { result ≡ waits_on wait at kind object }
 {
-    if wait != kind {
-        return 0;
-    }
-    if at == object {
-        return 1;
-    }
-    0
+    u8::from((wait == kind) & (at == object))
 }
 
 // The tasks that wait for the object.
@@ -158,8 +139,5 @@ pub fn any_flag(f: [u8; TASKS]) -> bool
 pub fn best_for(t: Tasks, waiting: TaskList, kind: u8, object: u8) -> u8
     ensures { result ≡ best_of waiting t.wait t.object t.level kind object }
 {
-    let kinds = t.wait;
-    let objects = t.object;
-    let levels = t.level;
-    task_lists::best_waiter(waiting, kinds, objects, levels, kind, object)
+    task_lists::best_waiter(waiting, t.wait, t.object, t.level, kind, object)
 }
