@@ -3,15 +3,15 @@
 #![tactic(auto)]
 
 ghost use Rattle.std.specs.Prelude.{◌≡◌};
-ghost use Rattle.text.specs.Place.{put_bytes};
-ghost use Rattle.arrive.specs.Feed.{kept_len, line_found, line_carry, fed, carry_after, last_found, found_line};
+ghost use Rattle.arrive.specs.Feed.{line_found, line_carry, fed, carry_after, last_found, found_line};
 
 use text::{cut, place};
 
 // The longest line of a script, without its LF.
 pub const LONGEST: usize = 160;
 
-// What was found in the bytes that arrived.
+// What was found in the bytes that arrived. `Nothing` is a case here, and no `Option` around: `line` and the
+// definitions `found_line` and `arrivals_of` go through the four in one match, and a second layer is no plainer.
 #[derive(Clone, Copy)]
 pub enum Found {
     // A whole line: this part of the bytes.
@@ -25,7 +25,7 @@ pub enum Found {
 }
 
 // What was found, the place behind it, and how many bytes of the next line the carry then holds: more than its
-// length stands for a line that is too long for it.
+// length stands for a line that is too long for it. A count beside a lent carry: fixed memory, no heap.
 #[derive(Drop)]
 pub struct Fed {
     pub found: Found,
@@ -33,18 +33,8 @@ pub struct Fed {
     pub held: usize,
 }
 
-// One part more of the line whose first `held` bytes the carry holds.
-fn keep(carry: &mut [u8], held: usize, part: &[u8]) -> usize
-    ensures count { result ≡ kept_len carry.old held part.now }
-    ensures memory { carry.new ≡ put_bytes carry.old held part.now }
-{
-    match place::put_bytes(carry, held, part) {
-        Some(n) => n,
-        None => carry.len() + 1,
-    }
-}
-
 // The line that ends with the part from start to end of the bytes that arrived.
+#[tactic(auto, unfolding(crate::specs::Feed::line_found, crate::specs::Feed::line_carry, text::specs::Place::put_answer))]
 fn close(carry: &mut [u8], held: usize, part: &[u8], start: usize, end: usize) -> Found
     ensures answer { result ≡ line_found carry.old held part.now start end }
     ensures memory { carry.new ≡ line_carry carry.old held part.now }
@@ -55,14 +45,14 @@ fn close(carry: &mut [u8], held: usize, part: &[u8], start: usize, end: usize) -
         }
         return Found::Part { start, end };
     }
-    let n = keep(carry, held, part);
-    if carry.len() < n {
-        return Found::Long;
+    match place::put_bytes(carry, held, part) {
+        Some(n) => Found::Carried(n),
+        None => Found::Long,
     }
-    Found::Carried(n)
 }
 
 // The next line's end in the bytes that arrived, from `at` on.
+#[tactic(auto, unfolding(crate::specs::Feed::fed, crate::specs::Feed::kept_len, crate::specs::Feed::carry_after, text::specs::Place::put_answer))]
 pub fn feed(carry: &mut [u8], held: usize, bytes: &[u8], at: usize) -> Fed
     ensures answer { result ≡ fed carry.old held bytes.now at }
     ensures memory { carry.new ≡ carry_after carry.old held bytes.now at }
@@ -77,25 +67,26 @@ pub fn feed(carry: &mut [u8], held: usize, bytes: &[u8], at: usize) -> Fed
             held: 0,
         };
     }
-    let n = keep(carry, held, part);
+    let kept = place::put_bytes(carry, held, part);
     Fed {
         found: Found::Nothing,
         next: end,
-        held: n,
+        held: kept.unwrap_or(carry.len() + 1),
     }
 }
 
 // What is left when nothing more arrives: a last line without LF.
+#[tactic(auto, unfolding(crate::specs::Feed::last_found))]
 pub fn finish(carry: &[u8], held: usize) -> Found
     ensures { result ≡ last_found carry.now held }
 {
     if held == 0 {
-        return Found::Nothing;
+        Found::Nothing
+    } else if carry.len() < held {
+        Found::Long
+    } else {
+        Found::Carried(held)
     }
-    if carry.len() < held {
-        return Found::Long;
-    }
-    Found::Carried(held)
 }
 
 // The line that was found, where it lies: in the bytes that arrived or in the carry. Without one it is empty.
@@ -105,7 +96,6 @@ pub fn line<'a>(carry: &'a [u8], bytes: &'a [u8], found: Found) -> &'a [u8]
     match found {
         Found::Part { start, end } => cut::part(bytes, start, end),
         Found::Carried(n) => cut::part(carry, 0, n),
-        Found::Long => cut::part(carry, 0, 0),
-        Found::Nothing => cut::part(carry, 0, 0),
+        Found::Long | Found::Nothing => &[],
     }
 }

@@ -11,6 +11,7 @@ ghost use Rattle.log_lines.specs.LogLine.{line_bytes, log_bytes, bad_bytes, plac
 use text::place;
 
 // The first line of a log: `log`, tab, `1`.
+#[tactic(auto, unfolding(crate::specs::LogLine::log_bytes, text::specs::Ascii::ascii))]
 pub fn write_header(log: &mut [u8]) -> Option<usize>
     ensures answer { result ≡ put_answer log.old 0 log_bytes }
     ensures memory { log.new ≡ put_bytes log.old 0 log_bytes }
@@ -19,6 +20,7 @@ pub fn write_header(log: &mut [u8]) -> Option<usize>
 }
 
 // The whole log of a script with another first line than its own: `bad`, tab, `1`.
+#[tactic(auto, unfolding(crate::specs::LogLine::bad_bytes, text::specs::Ascii::ascii))]
 pub fn write_bad(log: &mut [u8]) -> Option<usize>
     ensures answer { result ≡ put_answer log.old 0 bad_bytes }
     ensures memory { log.new ≡ put_bytes log.old 0 bad_bytes }
@@ -27,6 +29,7 @@ pub fn write_bad(log: &mut [u8]) -> Option<usize>
 }
 
 // How many bytes the field of the task to run has.
+#[tactic(auto, using(crate::specs::LogLineLaws::run_task, crate::specs::LogLineLaws::run_none))]
 fn run_length(run: u8) -> usize
     ensures { result ≡ length (run_field (task_at run)) }
 {
@@ -44,28 +47,25 @@ fn line_length(number: u8, value: u32, run: u8) -> usize
 }
 
 // A number's digits, from `at` on; the place behind them.
+#[tactic(auto, unfolding(text::specs::Place::put_answer, crate::specs::LogLine::place_after))]
 fn put_number(log: &mut [u8], at: usize, v: u32) -> usize
     ensures place { result ≡ place_after log.old at (decimal v) }
     ensures memory { log.new ≡ put_bytes log.old at (decimal v) }
 {
-    match decimal::write(log, at, v) {
-        Some(n) => n,
-        None => at,
-    }
+    decimal::write(log, at, v).unwrap_or(at)
 }
 
 // Bytes, from `at` on; the place behind them.
+#[tactic(auto, unfolding(text::specs::Place::put_answer, crate::specs::LogLine::place_after))]
 fn put_text(log: &mut [u8], at: usize, bytes: &[u8]) -> usize
     ensures place { result ≡ place_after log.old at bytes.now }
     ensures memory { log.new ≡ put_bytes log.old at bytes.now }
 {
-    match place::put_bytes(log, at, bytes) {
-        Some(n) => n,
-        None => at,
-    }
+    place::put_bytes(log, at, bytes).unwrap_or(at)
 }
 
 // The task to run, or `-`.
+#[tactic(auto, using(crate::specs::LogLineLaws::run_task, crate::specs::LogLineLaws::run_none))]
 fn put_run(log: &mut [u8], at: usize, run: u8) -> usize
     ensures place { result ≡ place_after log.old at (run_field (task_at run)) }
     ensures memory { log.new ≡ put_bytes log.old at (run_field (task_at run)) }

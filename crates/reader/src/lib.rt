@@ -53,6 +53,28 @@ pub fn advance<'a>(r: Reader<'a>) -> Reader<'a>
     }
 }
 
+// The lines from the reader's place on.
+impl<'a> Iterator for Reader<'a> {
+    ghost use Rattle.std.specs.Iterator.{YieldsFirstBy, item_count};
+    ghost use Rattle.reader.specs.Place.{lines_from};
+
+    type Item = &'a [u8];
+
+    ghost next_gives = { YieldsFirstBy (λ l. l.now) (λ r. lines_from r.text.now r.at) };
+
+    ghost remaining = { item_count (λ r. lines_from r.text.now r.at) };
+
+    #[tactic(auto, using(text::specs::LinesLaws::lines_next, text::specs::LinesLaws::lines_none))]
+    fn next(&mut self) -> Option<&'a [u8]> {
+        if past(self.text, self.at) {
+            return None;
+        }
+        let line = lines::line(self.text, self.at);
+        self.at = lines::next(self.text, self.at);
+        Some(line)
+    }
+}
+
 // From here on a caller hands in a slice and a number: a reader is made and asked.
 
 // Whether no line begins at `at`.
@@ -77,6 +99,7 @@ pub fn next_at(text: &[u8], at: usize) -> usize
 }
 
 // The text's first line, empty where it has none.
+#[tactic(auto, using(crate::specs::PlaceLaws::nth_first))]
 pub fn first_line<'a>(text: &'a [u8]) -> &'a [u8]
     ensures { result.now ≡ get_or (lines text.now) 0 [] }
 {

@@ -9,10 +9,16 @@ use native.Mathlib.Omega.{arith}
 use Rattle.std.proofs.Math.ListN.{length}
 use borrow.Author.Tests.{ne_eqb, eqb-true, eqb-false, ltb-false}
 use Rattle.std.specs.List.{position, position_or_len}
-use Rattle.std.specs.Prelude.{unwrap_or}
+use Rattle.std.specs.Prelude.{Option, Some, None, unwrap_or, option_map}
+use denote.Ref.{Bor}
 use Rattle.std.proofs.lemmas.List.Recursion.{is_position_or_len}
 use Rattle.text.specs.Cut.{up_to, find_from, Free, on_first, pieces, behind, joined}
 use Rattle.lists.specs.TestLaws.{which}
+
+-- what `unwrap_or` reads of a part, or of another in its place
+pub part_or : (o : Option (Bor (List ℕ))) (d : Bor (List ℕ)) → (unwrap_or o d).now ≡ unwrap_or (option_map (λ x. x.now) o) d.now
+part_or None d = refl
+part_or (Some x) d = refl
 
 module _ (b : ℕ) where
   -- past the end nothing stands

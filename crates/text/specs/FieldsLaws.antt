@@ -1,5 +1,5 @@
 -- Laws of a line's fields.
-use Rattle.std.specs.Prelude.{◌≡◌, refl, List, [], ◌∷◌, ℕ, zero, suc, ◌+◌, ◌-◌, ◌≤◌, ◌<◌, cond, eqb, ltb, length, get_or, drop}
+use Rattle.std.specs.Prelude.{◌≡◌, refl, List, [], ◌∷◌, ℕ, zero, suc, ◌+◌, ◌≤◌, ◌<◌, cond, eqb, ltb, length, get_or, drop}
 use Rattle.std.proofs.Common.{ap, sym, ◌∙◌, arith, drop_of_length-le, ltb-true, ltb-false}
 use Rattle.std.proofs.Math.Logic.{inl, inr}
 use Rattle.std.specs.List.{slice_split, count_by}
@@ -55,18 +55,10 @@ module _ (line : List ℕ) (at : ℕ) where
     | inr e ↦ rw (drop_of_length-le line (ltb-false _ _ e))
   ]
 
--- the n-th field from a place on: the first, one behind a tab, or none
+-- the first field from a place on
 module _ (line : List ℕ) (at : ℕ) where
   pub field_first : field_at (drop at line) 0 ≡ up_to tab (drop at line)
   field_first = elim (which (ltb (find_from tab line at) (length line))) [
     | inl e ↦ rw (fields_next line at (ltb-true _ _ e))
     | inr e ↦ rw (fields_last line at (ltb-false _ _ e))
   ]
-
-  pub field_behind : (n : ℕ) → 0 < n → find_from tab line at < length line → field_at (drop at line) n ≡ field_at (drop (find_from tab line at + 1) line) (n - 1)
-  field_behind zero h k = absurd (omega arith)
-  field_behind (suc n) h k = let e : suc n - 1 ≡ n = omega arith in rw (fields_next line at k, e)
-
-  pub field_none : (n : ℕ) → 0 < n → length line ≤ find_from tab line at → field_at (drop at line) n ≡ []
-  field_none zero h k = absurd (omega arith)
-  field_none (suc n) h k = rw (fields_last line at k)

@@ -1,11 +1,11 @@
 -- Laws of a text's lines.
-use Rattle.std.specs.Prelude.{◌≡◌, refl, ℕ, ◌+◌, ◌≤◌, ◌<◌, eqb, ltb, length, get_or, drop}
+use Rattle.std.specs.Prelude.{◌≡◌, refl, ℕ, suc, ◌+◌, ◌≤◌, ◌<◌, eqb, ltb, length, get_or, drop}
 use Rattle.std.proofs.Common.{ap, arith}
 use mathlib.Core.List.{List, [], ◌∷◌, ◌++◌}
 use Rattle.std.proofs.Math.Logic.{inl, inr}
 use Rattle.std.proofs.Math.ListN.{drop_of_length-le}
 use borrow.Author.Tests.{lt-ltb, le-ltb, ltb-true, ltb-false, eqb-true}
-use Rattle.text.specs.Cut.{up_to, Free, pieces, behind, joined}
+use Rattle.text.specs.Cut.{up_to, Free, on_first, pieces, behind, joined}
 use Rattle.text.specs.CutLaws.{pieces_next, pieces_last, joined_pieces, pieces_some, pieces_free}
 use Rattle.text.specs.Lines.{lf, lines, final_lf, line_from, line_end, next_line}
 use Rattle.lists.specs.TestLaws.{which}
@@ -22,6 +22,19 @@ lines_text (c ∷ d ∷ ds) =
 pub lines_free : (text : List ℕ) (n : ℕ) → Free lf (get_or (lines text) n [])
 unfolding lines up_to
 lines_free text n = pieces_free lf [] (λ k. refl) text n
+
+-- there are at most as many as the text has bytes
+first_most : (c n : ℕ) (ps : List (List ℕ)) → length ps ≤ n → length (on_first c ps) ≤ suc n
+first_most c n [] h = omega arith
+first_most c n (p ∷ ps) h = omega arith
+
+pub lines_most : (text : List ℕ) → length (lines text) ≤ length text
+unfolding lines pieces
+lines_most [] = omega arith
+lines_most (c ∷ cs) = elim (which (eqb c lf)) [
+  | inl e ↦ rw e (omega (arith, lines_most cs))
+  | inr e ↦ rw e (first_most c (length cs) (pieces lf [] cs) (lines_most cs))
+]
 
 -- the line that begins at a place, and those from the next one on
 module _ (text : List ℕ) (at : ℕ) where

@@ -2,8 +2,6 @@
 ghost use Rattle.std.specs.Prelude.{◌≡◌, length};
 ghost use Rattle.text.specs.Fields.{fields, field_at};
 
-use crate::cut;
-
 pub const TAB: u8 = b'\t';
 
 // How many fields the line has.
@@ -15,17 +13,8 @@ pub fn count(line: &[u8]) -> usize
 }
 
 // The n-th field, from 0 on, as a part of the line. From `count` on there is none, and the part is empty.
-// Not `split(..).nth(n)`: tried, and its proof didn't close.
 pub fn nth(line: &[u8], n: usize) -> &[u8]
     ensures { result.now ≡ field_at line.now n }
 {
-    let mut start = 0;
-    for _ in 0..n {
-        let end = cut::find(line, start, TAB);
-        if line.len() <= end {
-            return &[];
-        }
-        start = end + 1;
-    }
-    cut::piece(line, start, TAB)
+    line.split(|c| *c == TAB).nth(n).unwrap_or(&[])
 }

@@ -1,31 +1,21 @@
--- `reader::whole::nth_line`: the line that is asked for is the one `left` lines on from the place.
-use mathlib.Core.Path.{◌≡◌, refl, sym, ◌∙◌}
-use Prim.Native.Nat.{◌<◌}
-use native.Mathlib.Omega.{arith}
-use Rattle.reader.specs.PlaceLaws.{ended_at_end, not_ended, nth_none, nth_first, nth_behind}
+-- `reader::whole::nth_line`: the reader hands out the text's lines.
+use Rattle.std.proofs.Common.{rules, ◌≡◌, ap, ◌∙◌, []}
+use Rattle.std.specs.Prelude.{unwrap_or, option_map}
+use Rattle.std.specs.List.{slice_get}
+use Rattle.std.proofs.lemmas.Option.{unwrap_or-slice_get}
+use Rattle.std.proofs.lemmas.Iterator.Consumers.{nth_from_yields_List, YieldsList-from_first}
+use Rattle.text.specs.CutLaws.{part_or}
+use Rattle.text.specs.Lines.{lines}
+use Rattle.reader.specs.Place.{lines_from}
 use Rattle.reader.proofs.whole.nth_line.Goals as goal
-
-pub loop-left-init : goal.loop-left-init
-loop-left-init c = refl
-
-pub returns-then-ended_at : goal.returns-then-ended_at
-returns-then-ended_at c =
-    let l = c.loop-left in
-    let text = c.args.text.now in
-    let h = ended_at_end text l.at (sym c.ended_at.ensures ∙ c.if-ended_at.true) in
-    sym (nth_none text l.at l.left h) ∙ l.invariant
-
-pub loop-left-preserved : goal.loop-left-preserved
-loop-left-preserved c =
-    let l = c.loop-left in
-    let text = c.args.text.now in
-    let h = not_ended text l.at (sym c.ended_at.ensures ∙ c.if-ended_at.false) in
-    let k : 0 < l.left = omega arith in
-    rw c.next_at-at.ensures (sym (nth_behind text l.at l.left k h) ∙ l.invariant)
 
 pub returns : goal.returns
 returns c =
-    let l = c.loop-left in
-    let z : l.left ≡ 0 = omega arith in
-    let text = c.args.text.now in
-    c.line_at.ensures ∙ sym (nth_first text l.at) ∙ (rw z at l.invariant)
+    let all = lines c.args.text.now in
+    let e : lines_from c.over.result.text.now c.over.result.at ≡ all = search rules in
+    let y : option_map (λ x. x.now) c.nth.result ≡ slice_get all c.args.n =
+    nth_from_yields_List _ c.nth.new.self c.args.n c.nth.ensures.ran (YieldsList-from_first (λ l. l.now) (λ r. lines_from r.text.now r.at) all e) in
+    ap (λ x. x.now) c.unwrap_or.ensures
+    ∙ part_or c.nth.result _
+    ∙ ap (λ o. unwrap_or o []) y
+    ∙ unwrap_or-slice_get all c.args.n []

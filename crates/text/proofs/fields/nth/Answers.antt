@@ -1,31 +1,24 @@
--- `text::fields::nth`: the field that is asked for is, from `start` on, the one behind the tabs still to be passed.
-use Rattle.std.proofs.Common.{◌≡◌, sym, ◌∙◌, ◌-◌, ◌+◌, ◌<◌, length, arith}
-use Rattle.text.specs.Cut.{find_from}
+-- `text::fields::nth`: the fields are the parts of std's `split`.
+use Rattle.std.proofs.Common.{rules, ◌≡◌, ap, ◌∙◌, [], get_or}
+use Rattle.std.specs.Prelude.{eqb, unwrap_or, option_map}
+use Rattle.std.specs.List.{slice_get, slice_split}
+use Rattle.std.proofs.lemmas.Option.{unwrap_or-slice_get}
+use Rattle.std.proofs.lemmas.Iterator.Consumers.{nth_from_yields_List}
+use Rattle.std.proofs.lemmas.Iterator.Splits.{YieldsList-from_slice_split}
+use borrow.Author.Tests.{tests}
 use Rattle.text.specs.Fields.{tab}
-use Rattle.text.specs.FieldsLaws.{field_first, field_behind, field_none}
+use Rattle.text.specs.CutLaws.{part_or}
+use Rattle.text.specs.FieldsLaws.{fields_split}
 use Rattle.text.proofs.fields.nth.Goals as goal
-
-pub loop-init : goal.loop-init
-loop-init c = let e : c.args.n - 0 ≡ c.args.n = omega arith in rw e
-
-pub returns-then-line-end : goal.returns-then-line-end
-returns-then-line-end c =
-    let l = c.loop in
-    let line = c.args.line.now in
-    sym (field_none line l.start (c.args.n - l.counter) (omega arith) (omega (arith, c.find-end.ensures))) ∙ l.invariant
-
-pub loop-preserved : goal.loop-preserved
-loop-preserved c =
-    let l = c.loop in
-    let line = c.args.line.now in
-    let k = c.args.n - l.counter in
-    let e : c.args.n - (l.counter + 1) ≡ k - 1 = omega arith in
-    let h : find_from tab line l.start < length line = omega (arith, c.find-end.ensures) in
-    rw (c.find-end.ensures, e) (sym (field_behind line l.start k (omega arith) h) ∙ l.invariant)
 
 pub returns : goal.returns
 returns c =
-    let l = c.loop in
-    let z : c.args.n - l.counter ≡ 0 = omega arith in
-    let line = c.args.line.now in
-    c.piece.ensures ∙ sym (field_first line l.start) ∙ (rw z at l.invariant)
+    let a = c.args in
+    let s = c.split.ensures in
+    let y : option_map (λ x. x.now) c.nth.result ≡ slice_get (slice_split (λ x. eqb x tab) a.line.now) a.n =
+    nth_from_yields_List _ c.nth.new.self a.n c.nth.ensures.ran (YieldsList-from_slice_split _ (λ x. eqb x tab) a.line.now s.rest s.done s.closure (λ x b q h. search (rules, tests))) in
+    ap (λ x. x.now) c.unwrap_or.ensures
+    ∙ part_or c.nth.result _
+    ∙ ap (λ o. unwrap_or o []) y
+    ∙ unwrap_or-slice_get (slice_split (λ x. eqb x tab) a.line.now) a.n []
+    ∙ ap (λ l. get_or l a.n []) (fields_split a.line.now)
