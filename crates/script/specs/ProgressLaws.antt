@@ -17,7 +17,8 @@ use Rattle.words.specs.Form.{longest}
 use Rattle.script.specs.WholeLog.{whole_log}
 use Rattle.script.specs.Session.{Script, turned, Stand, turn_at, stand_at, through, piece_run, left_arrivals, end_run, end_memory, stand_for}
 use Rattle.script.specs.SessionLaws.{turn_next, stand_next}
-use Rattle.script.specs.RoomLaws.{found_fits, turn_length, turn_few, turn_room}
+use Rattle.script.specs.RoomLaws.{found_fits, turn_fits, turn_length, turn_few, turn_room}
+use Rattle.script.specs.LineLaws.{found_short}
 use Rattle.script.specs.Pieces.{Piece, AllRoomy, more_roomy, Underway, starting, onward, underway, ended_with}
 use Rattle.log_lines.specs.LogLine.{line_room}
 use Rattle.script.specs.PiecesLaws.{pieces_whole}
@@ -82,11 +83,35 @@ module _ (bytes : List ℕ) where
     | inr e ↦ rw e
   ]
 
+  -- what is written is within the memory
+  through_written : (fuel : ℕ) (x : Stand) → x.written ≤ length x.memory → (through fuel bytes x).stand.written ≤ length x.memory
+  unfolding through
+  through_written zero x fits = fits
+  through_written (suc fuel) x fits = elim (which (ltb x.next (length bytes))) [
+    | inl e ↦ elim (which (turn_at bytes x).full) [
+      | inl n ↦ rw (e, n) fits
+      | inr n ↦ rw (e, n) (omega (arith, through_written fuel (stand_at bytes x) (turn_fits bytes x fits), turn_length bytes x fits))
+    ]
+    | inr e ↦ rw e fits
+  ]
+
 -- a whole piece
 module _ (s : Script) (carry bytes memory : List ℕ) where
+  -- as much is written as fits into the lent memory, of a piece and at the end
+  pub piece_written : (piece_run s carry bytes memory).stand.written ≤ length memory
+  unfolding piece_run
+  piece_written = through_written bytes (length bytes) (stand_for s carry memory) (omega arith)
+
+  pub end_written : (end_run s carry memory).written ≤ length memory
+  unfolding end_run
+  end_written = found_short s.whole s.stage memory (left_arrivals s.stage carry s.held)
+
   pub piece_placed : Placed bytes 0 (piece_run s carry bytes memory).stand.next (piece_run s carry bytes memory).full
   unfolding piece_run
   piece_placed = through_placed bytes (length bytes) (stand_for s carry memory) (omega arith) (omega arith)
+
+  pub piece_within : (piece_run s carry bytes memory).stand.next ≤ length bytes
+  piece_within = piece_placed.within
 
   -- with 33 bytes it never stops before the first line that ends in the piece
   pub piece_line : line_room ≤ length memory → line_end bytes 0 < length bytes → line_end bytes 0 < (piece_run s carry bytes memory).stand.next
@@ -111,6 +136,9 @@ module _ (s : Script) (carry bytes memory : List ℕ) where
   pub end_room : line_room ≤ length memory → (end_run s carry memory).full ≡ false
   unfolding end_run
   end_room room = found_fits s.whole s.stage memory (left_arrivals s.stage carry s.held) room
+
+-- what a caller that goes on by what was taken asks of a piece
+pub ruleset piece_goes = (piece_on, piece_within, piece_written)
 
 -- so with room nothing is ever left over, and one attempt at the end gives the whole log
 roomy_left : (ps : List Piece) (u : Underway) → AllRoomy ps → u.left ≡ [] → (underway u ps).left ≡ []
