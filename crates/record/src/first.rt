@@ -51,11 +51,11 @@ pub fn fresh() -> State
     };
     let queues = no_queues();
     State {
-        tasks: tasks,
-        semaphores: semaphores,
+        tasks,
+        semaphores,
         clock: 0,
-        mutexes: mutexes,
-        queues: queues,
+        mutexes,
+        queues,
         ready: none,
         waiting: none,
         started: 0,

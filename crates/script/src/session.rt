@@ -11,7 +11,8 @@ use script_lines::run::{AWAITING, RUNNING};
 use syntax::Line;
 
 // What a script has come to: the record, where it stands, and how many bytes of a line the carry holds. The words that tasks hold, WORDS of them, and the
-// block for queues are lent with each call, the same as the last call left them; at first the words are 0.
+// block for queues are lent with each call, the same as the last call left them; at first the words are 0. (Both go side by side through these functions, and
+// not in a struct: lent slices are what the documents fix.) `stage` is a byte and no enum: callers hand it in, and every byte is promised to work.
 #[derive(Clone, Copy)]
 pub struct Session {
     pub state: State,
@@ -41,9 +42,8 @@ struct Logged {
 pub fn begin() -> Session
     ensures { result ≡ fresh_session }
 {
-    let fresh = record::fresh();
     Session {
-        state: fresh,
+        state: record::fresh(),
         stage: AWAITING,
         held: 0,
     }
@@ -54,12 +54,7 @@ pub fn begin() -> Session
 fn is_line(found: Found) -> bool
     ensures { result ≡ lineb found }
 {
-    match found {
-        Found::Part { start: _, end: _ } => true,
-        Found::Carried(_) => true,
-        Found::Long => true,
-        Found::Nothing => false,
-    }
+    !matches!(found, Found::Nothing)
 }
 
 // The step that a line is. Before a good first line, and after a bad one, no line is a step.
@@ -121,6 +116,7 @@ pub fn arrive(
         written: 0,
         full: false,
     };
+    // by lines, of which `feed` says where the next begins: no index is counted
     while moved.next < bytes.len() {
         let f = arrive::feed(carry, moved.session.held, bytes, moved.next);
         if !is_line(f.found) {
@@ -154,10 +150,7 @@ pub fn arrive(
 fn is_left(stage: u8, held: usize) -> bool
     ensures { result ≡ leftb stage held }
 {
-    if held == 0 {
-        return stage == AWAITING;
-    }
-    true
+    held != 0 || stage == AWAITING
 }
 
 // The end of the script, with lent memory for one log line. Where that is full, session, words and block are as handed in, for another call

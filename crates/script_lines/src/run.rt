@@ -11,7 +11,8 @@ use record::{Answer, EIGHT, Plan, State};
 use syntax::Line;
 use words::Message;
 
-// Where a script stands: its first line is awaited; steps are run; its first line was bad and nothing more is written.
+// Where a script stands: its first line is awaited; steps are run; its first line was bad and nothing more is written. Bytes and no enum, as `Session.stage`
+// of `script` is handed in by callers, and every byte is promised to work.
 pub const AWAITING: u8 = 0;
 
 pub const RUNNING: u8 = 1;
@@ -54,7 +55,8 @@ pub fn make(m: Move, message: Message, words: &mut [u32], block: &mut [u32])
     moves::make(m, words, &message.words[..n], block);
 }
 
-// An answer's log line at the front of the lent memory.
+// An answer's log line at the front of the lent memory. None where it has no room. (The answer is an enum of numbers alone, taken apart by `let else`, so
+// that what is only logged stands apart from what goes on.)
 pub fn log_answer(a: Answer, log: &mut [u8]) -> Option<usize>
     ensures answer { result ≡ put_answer log.old 0 (line_for a) }
     ensures memory { log.new ≡ put_bytes log.old 0 (line_for a) }

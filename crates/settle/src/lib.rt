@@ -51,7 +51,7 @@ fn rest(q: TaskList) -> TaskList
         ids[i] = from[i + 1];
     }
     TaskList {
-        ids: ids,
+        ids,
         n: left as u8,
     }
 }
@@ -72,8 +72,8 @@ pub fn dispatch(started: u8, ready: TaskList, levels: [u8; TASKS], running: u8, 
     ensures { result ≡ turn_of started ready levels running hold }
 {
     let stay = Turn {
-        ready: ready,
-        running: running,
+        ready,
+        running,
     };
     if started == 0 {
         return stay;

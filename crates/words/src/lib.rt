@@ -11,7 +11,8 @@ const AHEAD: usize = 2;
 
 pub const MOST_NUMBERS: usize = AHEAD + EIGHT;
 
-// The words of a message, and how many there are; the rest 0. It stands beside its request, as an enum holds no array.
+// The words of a message, and how many there are; the rest 0: fixed memory with its length beside it, as there is no heap. It stands beside its request, as
+// an enum holds no array.
 #[derive(Clone, Copy)]
 pub struct Message {
     pub words: [u32; EIGHT],
