@@ -50,10 +50,7 @@ fn rest(q: TaskList) -> TaskList
     for i in 0..left {
         ids[i] = from[i + 1];
     }
-    TaskList {
-        ids,
-        n: left as u8,
-    }
+    TaskList { ids, n: left as u8 }
 }
 
 // The ready order when its first task takes the place of task `old`, which goes to the head of its level.
@@ -71,10 +68,7 @@ fn displace(q: TaskList, levels: [u8; TASKS], old: u8) -> TaskList
 pub fn dispatch(started: u8, ready: TaskList, levels: [u8; TASKS], running: u8, hold: u8) -> Turn
     ensures { result ≡ turn_of started ready levels running hold }
 {
-    let stay = Turn {
-        ready,
-        running,
-    };
+    let stay = Turn { ready, running };
     if started == 0 {
         return stay;
     }
