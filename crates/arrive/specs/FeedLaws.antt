@@ -2,11 +2,14 @@
 use Rattle.std.proofs.Math.Path.{◌≡◌}
 use Rattle.std.specs.Prelude.{List, ℕ, ◌+◌, ◌≤◌, ◌<◌}
 use Rattle.std.proofs.Math.ListN.{length}
-use borrow.Author.Tests.{le-leb, lt-leb, lt-ltb, le-ltb, eq-eqb, ne_eqb}
-use Rattle.text.specs.Place.{put_bytes}
-use Rattle.arrive.specs.declared.Found.TheVariants as found
+use borrow.Author.Tests.{le-leb, lt-leb, lt-ltb, le-ltb, eq-eqb, ne_eqb, leb-true, leb-false}
+use Rattle.text.specs.Place.{put_bytes, room, put_answer}
 use Rattle.arrive.specs.Feed.{kept_len, line_found, line_carry, fed, carry_after}
 use Rattle.text.specs.Lines.{line_from, line_end}
+use Rattle.std.proofs.Common.{◌∙◌, arith}
+use Rattle.std.proofs.Math.Logic.{inl, inr}
+use Rattle.lists.specs.TestLaws.{which}
+use Rattle.arrive.specs.declared.Found.TheVariants as found
 
 module _ (carry : List ℕ) (held : ℕ) (part : List ℕ) where
   pub kept_room : held + length part ≤ length carry → kept_len carry held part ≡ held + length part
@@ -16,6 +19,38 @@ module _ (carry : List ℕ) (held : ℕ) (part : List ℕ) where
   pub kept_none : length carry < held + length part → kept_len carry held part ≡ length carry + 1
   unfolding kept_len
   kept_none h = rw (lt-leb _ _ h)
+
+  -- what the answer of a writing tells
+  pub kept_next : (n : ℕ) → put_answer carry held part ≡ Some n → kept_len carry held part ≡ n
+  unfolding put_answer
+  kept_next n e = elim (which (room carry held part)) [
+    | inl r ↦ let k : Some (held + length part) ≡ Some n = rw r at e in kept_room (leb-true _ _ r) ∙ (cc)
+    | inr r ↦ let k : None ≡ Some n = rw r at e in absurd (let z : ◌≡◌ {A = ℕ} 0 1 = cc in omega arith)
+  ]
+
+  pub kept_full : put_answer carry held part ≡ None → kept_len carry held part ≡ length carry + 1
+  unfolding put_answer
+  kept_full e = elim (which (room carry held part)) [
+    | inl r ↦ let k : Some (held + length part) ≡ None = rw r at e in absurd (let z : ◌≡◌ {A = ℕ} 0 1 = cc in omega arith)
+    | inr r ↦ kept_none (leb-false _ _ r)
+  ]
+
+  -- what the count tells
+  pub kept_over : length carry < kept_len carry held part → length carry < held + length part
+  kept_over h = elim (which (room carry held part)) [
+    | inl r ↦ absurd (let k = leb-true (held + length part) (length carry) r in omega (arith, kept_room k))
+    | inr r ↦ leb-false _ _ r
+  ]
+
+  pub kept_fits : kept_len carry held part ≤ length carry → held + length part ≤ length carry
+  kept_fits h = elim (which (room carry held part)) [
+    | inl r ↦ leb-true _ _ r
+    | inr r ↦ absurd (omega (arith, kept_none (leb-false _ _ r)))
+  ]
+
+  pub line_same : held ≡ 0 → line_carry carry held part ≡ carry
+  unfolding line_carry
+  line_same z = rw (eq-eqb _ _ z)
 
   module _ (start end : ℕ) where
     pub found_long : length carry < held + length part → line_found carry held part start end ≡ found.Long

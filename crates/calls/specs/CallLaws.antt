@@ -1,6 +1,6 @@
 -- Laws of a step by its code: every step has one, no other code is a step's, and a refusal leaves the record, its words and the block.
-use Rattle.std.specs.Prelude.{◌≡◌, refl, Bool, Some, None, Option, List, ℕ, ◌≤◌, ◌<◌, length}
-use Rattle.std.proofs.Common.{ap, ◌∙◌}
+use Rattle.std.specs.Prelude.{◌≡◌, refl, Bool, Some, None, Option, List, ℕ, ◌≤◌, ◌<◌, length, suc}
+use Rattle.std.proofs.Common.{ap, ◌∙◌, arith}
 use Rattle.std.proofs.Math.ListN.{get_or-eq_default}
 use Rattle.record.specs.Whole.{Whole}
 use Rattle.record.specs.SoundRecord.{sound_of}
@@ -11,12 +11,12 @@ use Rattle.record.specs.declared.Answer.{Answer}  -- keep
 use Rattle.record.specs.declared.Request.{Request}  -- keep
 use Rattle.record.specs.declared.Request.TheVariants.{Task, Mutex, Sem, Start, Lock, Unlock, Pend, Post, Flush, Sleep, Yield, Hold, Free, Tick, Level, Outcome, Queue, OwnedQueue, Send, Receive, Word}  -- keep
 use Rattle.machine.specs.Planned.{carried}
-use Rattle.moves.specs.declared.Move.TheVariants as nothing
 use Rattle.moves.specs.Moves.{words_after, block_after}
 use Rattle.kernel.specs.Planning.{given}
 use Rattle.record.specs.declared.State.{State}  -- keep
 use Rattle.record.specs.declared.Plan.{Plan}  -- keep
 use Rattle.calls.specs.Call.{by_code, request_of, call_of, call_out, call_words, call_block, CallGives}
+use Rattle.moves.specs.declared.Move.TheVariants as nothing
 
 -- the step x is what some code asks for with some numbers
 abbrev pub HasCode : Request → Type 0
@@ -69,3 +69,7 @@ unfolding carried
 call_given k code a b c words m block p g =
     let e = g m block refl refl in
     (ap out_of e, ap (λ (z : After). z.whole.words) e, ap (λ (z : After). z.whole.block) e)
+
+-- a number that is no smaller and another is greater
+pub past : (n code : ℕ) → n ≤ code → (code ≡ n → ⊥) → suc n ≤ code
+past n code h other = omega arith

@@ -1,5 +1,5 @@
 -- Laws of a number's decimal digits.
-use Rattle.std.specs.Prelude.{◌≡◌, refl, List, [], ◌∷◌, ◌++◌, ℕ, zero, suc, ◌+◌, ◌*◌, ◌/◌, ◌%◌, ◌^◌, ◌≤◌, ◌<◌, max, ltb, length, get_or, take, drop, set}
+use Rattle.std.specs.Prelude.{◌≡◌, refl, List, [], ◌∷◌, ◌++◌, ℕ, zero, suc, ◌+◌, ◌*◌, ◌/◌, ◌%◌, ◌^◌, ◌≤◌, ◌<◌, max, ltb, length, get_or, take, drop, set, ◌-◌}
 use Rattle.std.proofs.Common.{ap, ◌∙◌, inl, inr, add-suc, add-one, arith, length-append, drop_at, lt-ltb, le-ltb, ltb-true, ltb-false}
 use Rattle.std.proofs.Math.Path.{sym}
 use Rattle.std.proofs.Math.Nat.{pow-succ'}
@@ -45,6 +45,18 @@ decimal_length v = (some 9 v, within_most max_digits v)
 -- a tenth has a digit fewer
 pub tenth : (f v : ℕ) → v < 10 ^ suc f → v / 10 < 10 ^ f
 tenth f v h = let k : v < 10 * 10 ^ f = rw (pow-succ' 10 f) at h in omega arith
+
+-- one digit off: the fuel suffices for what is left
+pub count_step : (f v : ℕ) → 10 ≤ v → v < 10 ^ f → (1 < f) × (v / 10 < 10 ^ (f - 1)) × (length (digits_within f v) ≡ length (digits_within (f - 1) (v / 10)) + 1)
+count_step zero v h k = absurd (omega arith)
+count_step (suc zero) v h k = absurd (omega arith)
+count_step (suc (suc f)) v h k =
+    let e : suc (suc f) - 1 ≡ suc f = omega arith in
+    (omega arith, rw e (tenth (suc f) v k), rw e (length_large (suc f) v h))
+
+pub count_end : (f v : ℕ) → 0 < f → v < 10 → length (digits_within f v) ≡ 1
+count_end zero v h k = absurd (omega arith)
+count_end (suc f) v h k = length_small f v k
 
 tens : (k : ℕ) → 0 < 10 ^ k
 tens zero = omega arith

@@ -5,7 +5,7 @@ use Rattle.std.proofs.Math.Seq.{append_snoc}
 use Rattle.std.proofs.lemmas.Bool.{eqb-false}
 use Rattle.std.proofs.lemmas.Option.{none-some, option_and_then_some}
 use Rattle.decimal.specs.Decimal.{decimal, digits_within, last_digit, zero_byte}
-use Rattle.decimal.specs.Parse.{most, nine_byte, appended, with_digit, with_digits, lone_zero, parsed}
+use Rattle.decimal.specs.Parse.{most, nine_byte, appended, with_digit, with_digits, lone_zero, parsed, on_value}
 use Rattle.lists.specs.TestLaws.{which}
 use Rattle.decimal.specs.DecimalLaws.{within_small, within_large, tenth, some, no_zero, decimal_more}
 
@@ -18,11 +18,22 @@ pub digits_end : (n : ℕ) (l : List ℕ) (i : ℕ) → length l ≤ i → with_
 unfolding with_digits
 digits_end n l i h = rw (drop_of_length-le l h)
 
+pub parsed_none : (l : List ℕ) → length l ≡ 0 → parsed l ≡ None
+unfolding parsed
+parsed_none [] h = refl
+parsed_none (c ∷ cs) h = absurd (omega arith)
+
 pub parsed_lone : (l : List ℕ) → length l ≡ 1 → get_or l 0 0 ≡ zero_byte → parsed l ≡ Some 0
 unfolding parsed
 parsed_lone [] h e = absurd (omega arith)
 parsed_lone (c ∷ []) h e = rw (eq-eqb c zero_byte e)
 parsed_lone (c ∷ d ∷ cs) h e = absurd (omega arith)
+
+pub parsed_leading : (l : List ℕ) → (length l ≡ 1 → ⊥) → get_or l 0 0 ≡ zero_byte → parsed l ≡ None
+unfolding parsed
+parsed_leading [] h e = absurd (let z : 0 ≡ zero_byte = e in omega arith)
+parsed_leading (c ∷ []) h e = absurd (h refl)
+parsed_leading (c ∷ d ∷ cs) h e = rw (eq-eqb c zero_byte e)
 
 pub parsed_digits : (l : List ℕ) → 0 < length l → (get_or l 0 0 ≡ zero_byte → ⊥) → parsed l ≡ with_digits 0 l
 unfolding parsed

@@ -3,9 +3,11 @@ use Rattle.std.proofs.Math.Path.{◌≡◌}
 use Rattle.std.specs.Prelude.{refl, List, [], ◌∷◌, ◌++◌, ℕ, ◌+◌, ◌≤◌, Some, length, drop}
 use Rattle.std.proofs.Common.{ap, ◌∙◌, append_assoc, append-nil, arith, length-append, length-drop, take_at, drop-drop, le-leb}
 use Rattle.std.proofs.Math.Seq.{drop-append-add}
-use Rattle.text.specs.Place.{put_answer, put_bytes}
+use Rattle.text.specs.Place.{put_answer, put_bytes, room}
 use Rattle.text.specs.PlaceLaws.{put_next, put_laid}
 use Rattle.log_lines.specs.LogLine.{place_after}
+use Rattle.std.proofs.Math.Logic.{inl, inr}
+use Rattle.lists.specs.TestLaws.{which}
 
 -- m is l with bs written at its front, and p is the place behind bs
 record Front (l bs m : List ℕ) (p : ℕ) : Type 0 where
@@ -58,3 +60,18 @@ puts_answer l rows {n} {q} u h =
     let r : 0 + length (whole rows) ≤ length l = omega arith in
     let f : Front l (whole rows) n q = puts_front l [] u (record { place = refl; memory = refl }) h in
     (rw (put_next l 0 (whole rows) r, z) (ap Some f.place), rw (put_laid l 0 (whole rows) r, z) f.memory)
+
+module _ (l : List ℕ) (at : ℕ) (bs : List ℕ) where
+  pub after_next : (n : ℕ) → put_answer l at bs ≡ Some n → n ≡ place_after l at bs
+  unfolding put_answer place_after
+  after_next n h = elim (which (room l at bs)) [
+    | inl e ↦ rw e (let g = rw e at h in cc)
+    | inr e ↦ absurd (let g = rw e at h in let z : ◌≡◌ {A = ℕ} 0 1 = cc in omega arith)
+  ]
+
+  pub after_full : put_answer l at bs ≡ None → at ≡ place_after l at bs
+  unfolding put_answer place_after
+  after_full h = elim (which (room l at bs)) [
+    | inl e ↦ absurd (let g = rw e at h in let z : ◌≡◌ {A = ℕ} 0 1 = cc in omega arith)
+    | inr e ↦ rw e
+  ]

@@ -1,19 +1,19 @@
 -- Laws of cutting a text into pieces.
-use Rattle.std.specs.Prelude.{◌≡◌, cond, eqb, ltb, get_or, take, drop}
+use Rattle.std.specs.Prelude.{◌≡◌, cond, eqb, ltb, get_or, take, drop, Option, Some, None, unwrap_or, option_map}
 use Rattle.std.proofs.Math.Path.{refl}
-use Rattle.std.proofs.Common.{ap, sym, ◌∙◌, drop_of_length-le, length-drop, drop-drop, take_all}
+use Rattle.std.proofs.Common.{ap, sym, ◌∙◌, drop_of_length-le, length-drop, drop-drop, take_all, add-one}
 use mathlib.Core.List.{List, [], ◌∷◌, ◌++◌}
 use Rattle.std.proofs.Math.Logic.{inl, inr}
 use Prim.Native.Nat.{ℕ, zero, suc, ◌+◌, ◌≤◌, ◌<◌}
 use native.Mathlib.Omega.{arith}
 use Rattle.std.proofs.Math.ListN.{length}
-use borrow.Author.Tests.{ne_eqb, eqb-true, eqb-false, ltb-false}
+use borrow.Author.Tests.{ne_eqb, eqb-true, eqb-false, ltb-false, eq-eqb}
 use Rattle.std.specs.List.{position, position_or_len}
-use Rattle.std.specs.Prelude.{Option, Some, None, unwrap_or, option_map}
 use denote.Ref.{Bor}
 use Rattle.std.proofs.lemmas.List.Recursion.{is_position_or_len}
 use Rattle.text.specs.Cut.{up_to, find_from, Free, on_first, pieces, behind, joined}
 use Rattle.lists.specs.TestLaws.{which}
+use Rattle.std.proofs.Math.Seq.{drop-cons}
 
 -- what `unwrap_or` reads of a part, or of another in its place
 pub part_or : (o : Option (Bor (List ℕ))) (d : Bor (List ℕ)) → (unwrap_or o d).now ≡ unwrap_or (option_map (λ x. x.now) o) d.now
@@ -21,6 +21,15 @@ part_or None d = refl
 part_or (Some x) d = refl
 
 module _ (b : ℕ) where
+  -- one byte at place i
+  pub up_to_hit : (l : List ℕ) (i : ℕ) → i < length l → get_or l i 0 ≡ b → up_to b (drop i l) ≡ []
+  unfolding up_to
+  up_to_hit l i h e = rw (drop-cons l i 0 h, eq-eqb _ _ e)
+
+  pub up_to_miss : (l : List ℕ) (i : ℕ) → i < length l → (get_or l i 0 ≡ b → ⊥) → up_to b (drop i l) ≡ get_or l i 0 ∷ up_to b (drop (i + 1) l)
+  unfolding up_to
+  up_to_miss l i h e = rw (add-one, drop-cons l i 0 h, ne_eqb _ _ e)
+
   -- past the end nothing stands
   pub up_to_end : (l : List ℕ) (i : ℕ) → length l ≤ i → up_to b (drop i l) ≡ []
   unfolding up_to

@@ -1,6 +1,6 @@
 -- Laws of a line's fields.
-use Rattle.std.specs.Prelude.{◌≡◌, refl, List, [], ◌∷◌, ℕ, zero, suc, ◌+◌, ◌≤◌, ◌<◌, cond, eqb, ltb, length, get_or, drop}
-use Rattle.std.proofs.Common.{ap, sym, ◌∙◌, arith, drop_of_length-le, ltb-true, ltb-false}
+use Rattle.std.specs.Prelude.{◌≡◌, refl, List, [], ◌∷◌, ℕ, zero, suc, ◌+◌, ◌≤◌, ◌<◌, cond, eqb, ltb, length, get_or, drop, ◌-◌}
+use Rattle.std.proofs.Common.{ap, sym, ◌∙◌, arith, drop_of_length-le, ltb-true, ltb-false, add-one, drop-cons, eq-eqb, ne_eqb}
 use Rattle.std.proofs.Math.Logic.{inl, inr}
 use Rattle.std.specs.List.{slice_split, count_by}
 use Rattle.std.proofs.lemmas.List.Splits.{length-slice_split}
@@ -41,6 +41,23 @@ fields_free line n = pieces_free tab ([] ∷ []) one line n where
   one zero = refl
   one (suc k) = refl
 
+-- a byte that is no tab makes no field
+same_count : (c : ℕ) (ps : List (List ℕ)) → 0 < length ps → length (on_first c ps) ≡ length ps
+same_count c [] h = absurd (omega arith)
+same_count c (p ∷ ps) h = refl
+
+pub count_other : (line : List ℕ) (i : ℕ) → i < length line → (get_or line i 0 ≡ tab → ⊥) → length (fields (drop i line)) ≡ length (fields (drop (i + 1) line))
+unfolding fields pieces
+count_other line i h e = rw (add-one, drop-cons line i 0 h, ne_eqb _ _ e) (same_count (get_or line i 0) (fields (drop (suc i) line)) (fields_some (drop (suc i) line)))
+
+pub count_tab : (line : List ℕ) (i : ℕ) → i < length line → get_or line i 0 ≡ tab → length (fields (drop i line)) ≡ suc (length (fields (drop (i + 1) line)))
+unfolding fields pieces
+count_tab line i h e = rw (add-one, drop-cons line i 0 h, eq-eqb _ _ e)
+
+pub count_end : (line : List ℕ) (i : ℕ) → length line ≤ i → length (fields (drop i line)) ≡ 1
+unfolding fields pieces
+count_end line i h = rw (drop_of_length-le line h)
+
 -- the field that begins at a place, and those behind the tab that ends it
 module _ (line : List ℕ) (at : ℕ) where
   pub fields_next : find_from tab line at < length line → fields (drop at line) ≡ up_to tab (drop at line) ∷ fields (drop (find_from tab line at + 1) line)
@@ -62,3 +79,11 @@ module _ (line : List ℕ) (at : ℕ) where
     | inl e ↦ rw (fields_next line at (ltb-true _ _ e))
     | inr e ↦ rw (fields_last line at (ltb-false _ _ e))
   ]
+
+  pub field_behind : (n : ℕ) → 0 < n → find_from tab line at < length line → field_at (drop at line) n ≡ field_at (drop (find_from tab line at + 1) line) (n - 1)
+  field_behind zero h k = absurd (omega arith)
+  field_behind (suc n) h k = let e : suc n - 1 ≡ n = omega arith in rw (fields_next line at k, e)
+
+  pub field_none : (n : ℕ) → 0 < n → length line ≤ find_from tab line at → field_at (drop at line) n ≡ []
+  field_none zero h k = absurd (omega arith)
+  field_none (suc n) h k = rw (fields_last line at k)

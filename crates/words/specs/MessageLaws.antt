@@ -1,6 +1,6 @@
 -- Laws of the message beside a request: it makes the request's step whole, has at most eight words, and is read word by word.
-use Rattle.std.specs.Prelude.{◌≡◌, refl, List, [], ◌++◌, true, Some, None, Option as RustOption, ℕ, ◌≤◌, leb, min, length, replicate, take, drop}
-use Rattle.std.proofs.Common.{ap, sym, ◌∙◌, inl, inr, arith, take_all, length-take-le, leb-true, leb-false}
+use Rattle.std.specs.Prelude.{◌≡◌, refl, List, [], ◌++◌, true, Some, None, Option as RustOption, ℕ, ◌≤◌, leb, min, length, replicate, take, drop, ◌∷◌, ◌+◌, ◌<◌, get_or, set}
+use Rattle.std.proofs.Common.{ap, sym, ◌∙◌, inl, inr, arith, take_all, length-take-le, leb-true, leb-false, add-one, length-drop, take-suc, get_or-drop}
 use Rattle.std.proofs.lemmas.List.{drop-replicate}
 use Rattle.std.proofs.Math.Option.{Option, none, some}
 use Rattle.lists.specs.Table.{pad}
@@ -16,6 +16,7 @@ use Rattle.words.specs.Form.{words, made_by}
 use Rattle.words.specs.Reading.{reading_for, reading, message_on, words_in, message_in, message_with}
 use Rattle.words.specs.Written.{numbers_in}
 use Rattle.words.specs.MadeLaws.{made_good}
+use Rattle.lists.specs.TableLaws.{pad_snoc}
 
 -- a step is its request with its message
 pub step_back : (x : Step) → step_for (request_for x) (message_for x) ≡ x
@@ -141,3 +142,23 @@ words_laid d n w h e =
     ] in
     let size : n ≡ length (take held_words d) = sym (length-take-le n d (omega arith)) ∙ ap length all in
     rw (drop-replicate {X = ℕ} n held_words 0, e, all, ← size)
+
+module _ (l : List ℕ) (n : ℕ) (h : n ≤ held_words) (k : n ≤ length (drop 2 l)) where
+  pub words_next : n < held_words → n + 2 < length l → set (pad held_words 0 (take n (drop 2 l))) n (get_or l (n + 2) 0) ≡ pad held_words 0 (take (n + 1) (drop 2 l))
+  words_next p q =
+      let d = drop 2 l in
+      let e : length (take n d) ≡ n = length-take-le n d k in
+      let g : get_or l (n + 2) 0 ≡ get_or d n 0 = ap (λ j. get_or l j 0) (omega arith) ∙ sym (get_or-drop 2 l n 0) in
+      let s : take (n + 1) d ≡ take n d ++ (get_or d n 0 ∷ []) = rw add-one (take-suc d n 0 (omega (arith, length-drop 2 l))) in
+      rw (g, s) (ap (λ j. set (pad held_words 0 (take n d)) j (get_or d n 0)) (sym e) ∙ pad_snoc held_words 0 (take n d) (get_or d n 0) (omega (arith, e)))
+
+  pub words_end : length l ≤ n + 2 → take n (drop 2 l) ≡ words_in l
+  words_end q =
+      let e : length (drop 2 l) ≤ n = omega (arith, length-drop 2 l) in
+      take_all n (drop 2 l) e ∙ sym (take_all held_words (drop 2 l) (omega (arith, e)))
+
+  -- how many they are
+  pub words_count : (m : List ℕ) {w : List ℕ} → w ≡ pad held_words 0 (take n (drop 2 l)) → take n (drop 2 l) ≡ m → record { words = w; n = n } ≡ message_with m
+  words_count m e f =
+      let c : n ≡ length m = sym (length-take-le n (drop 2 l) k) ∙ ap length f in
+      rw (e, f, c)

@@ -18,6 +18,10 @@ reading_for (some x) = Some (request_for x)
 unfoldable pub reading : List ℕ → List ℕ → RustOption Request
 reading n l = reading_for (made_by words n l)
 
+-- numbers that are few: at most one
+abbrev pub few_numbers : ℕ
+few_numbers = 1
+
 -- the message of the step that was read: no words where there is no step
 unfoldable pub message_on : Option Step → List ℕ
 message_on none = []
