@@ -39,6 +39,7 @@ pub struct Headed {
 
 // What was read of a line, answered on a record that was tested before, `sound` being what the test said: 14, 15, or its step, before any word is
 // moved. The lent block has `space` words. (As in `calls::call`, the record goes through no function more than it must.)
+#[tactic(auto, unfolding(crate::specs::LineRun::plan_read, kernel::specs::Planning::planned))]
 pub fn answer(s: State, sound: bool, line: Line, space: usize, words: &[u32]) -> Plan
     ensures { result ≡ line_planned sound s words.now space line }
 {
@@ -69,6 +70,7 @@ pub fn make(m: Move, message: Message, words: &mut [u32], block: &mut [u32])
 
 // An answer's log line at the front of the lent memory. None where it has no room. (The answer is an enum of numbers alone, taken apart by `let else`, so
 // that what is only logged stands apart from what goes on.)
+#[tactic(auto, unfolding(record::specs::StepRecord::number_of, record::specs::StepRecord::value_of, record::specs::StepRecord::run_of))]
 pub fn log_answer(a: Answer, log: &mut [u8]) -> Option<usize>
     ensures answer { result ≡ put_answer log.old 0 (line_for a) }
     ensures memory { log.new ≡ put_bytes log.old 0 (line_for a) }
