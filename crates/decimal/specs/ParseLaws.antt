@@ -5,7 +5,7 @@ use Rattle.std.proofs.Math.Seq.{append_snoc}
 use Rattle.std.proofs.lemmas.Bool.{eqb-false}
 use Rattle.std.proofs.lemmas.Option.{none-some, option_and_then_some}
 use Rattle.decimal.specs.Decimal.{decimal, digits_within, last_digit, zero_byte}
-use Rattle.decimal.specs.Parse.{most, nine_byte, appended, with_digit, with_digits, lone_zero, parsed, on_value}
+use Rattle.decimal.specs.Parse.{most, nine_byte, appended, with_digit, with_digits, lone_zero, parsed}
 use Rattle.lists.specs.TestLaws.{which}
 use Rattle.decimal.specs.DecimalLaws.{within_small, within_large, tenth, some, no_zero, decimal_more}
 

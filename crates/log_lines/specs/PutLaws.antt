@@ -1,6 +1,6 @@
 -- Rows of bytes put one after the other at the front of lent memory.
 use Rattle.std.proofs.Math.Path.{◌≡◌}
-use Rattle.std.specs.Prelude.{refl, List, [], ◌∷◌, ◌++◌, ℕ, ◌+◌, ◌≤◌, Some, length, drop}
+use Rattle.std.specs.Prelude.{refl, List, [], ◌∷◌, ◌++◌, ℕ, ◌+◌, ◌≤◌, Some, None, length, drop}
 use Rattle.std.proofs.Common.{ap, ◌∙◌, append_assoc, append-nil, arith, length-append, length-drop, take_at, drop-drop, le-leb}
 use Rattle.std.proofs.Math.Seq.{drop-append-add}
 use Rattle.text.specs.Place.{put_answer, put_bytes, room}

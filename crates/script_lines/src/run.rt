@@ -57,6 +57,7 @@ pub fn make(m: Move, message: Message, words: &mut [u32], block: &mut [u32])
 
 // An answer's log line at the front of the lent memory. None where it has no room. (The answer is an enum of numbers alone, taken apart by `let else`, so
 // that what is only logged stands apart from what goes on.)
+#[tactic(auto, unfolding(record::specs::StepRecord::number_of, record::specs::StepRecord::value_of, record::specs::StepRecord::run_of))]
 pub fn log_answer(a: Answer, log: &mut [u8]) -> Option<usize>
     ensures answer { result ≡ put_answer log.old 0 (line_for a) }
     ensures memory { log.new ≡ put_bytes log.old 0 (line_for a) }
