@@ -4,7 +4,7 @@ use Rattle.std.proofs.Math.Path.{refl}
 use Rattle.std.proofs.Common.{sym, ◌∙◌, inl, inr}
 use Rattle.std.proofs.Math.Numerals.{add-one}
 use Rattle.std.proofs.lemmas.Bool.{not-true, not-false}
-use Rattle.lists.specs.Test.{◌and◌, allb}
+use Rattle.lists.specs.Test.{allb}
 use Rattle.lists.specs.TestLaws.{which, clash, true_and, all_true}
 
 -- what a call answers of a test, after `if !call`
@@ -35,12 +35,3 @@ module _ (p : ℕ → Bool) where
 
   pub all_stop : {r : Bool} (j n : ℕ) → j < n → r ≡ p j → not r ≡ true → false ≡ allb n p
   all_stop j n l q h = all_fails j n l (sym (test_failed q h))
-
--- a conjunction that is carried through the loop to its end
-module _ (p : ℕ → Bool) where
-  pub fits_more : (j : ℕ) (fits next : Bool) → fits ≡ allb j p → next ≡ p j and fits → next ≡ allb (j + 1) p
-  unfolding allb
-  fits_more j fits next e q = rw (add-one, ← e) q
-
-  pub fits_done : (j n : ℕ) (fits : Bool) → j ≡ n → fits ≡ allb j p → fits ≡ allb n p
-  fits_done j n fits q e = rw (← q) e

@@ -1,5 +1,5 @@
 -- Rust's `&` and `|` on tests are the connectives of the contracts; a conjunction that a loop carries by `&=`.
-use Rattle.std.specs.Prelude.{◌≡◌, Bool, true, false, ℕ, ◌+◌, ◌&&◌, ◌||◌}
+use Rattle.std.specs.Prelude.{◌≡◌, Bool, true, false, not, cond, ℕ, ◌+◌, ◌&&◌, ◌||◌}
 use Rattle.std.proofs.Math.Path.{refl}
 use Rattle.std.proofs.Math.Numerals.{add-one}
 use Rattle.lists.specs.Test.{◌and◌, ◌or◌, allb}
@@ -41,9 +41,19 @@ pub and_off : (a b : Bool) → a ≡ false → (a and b) ≡ a
 unfolding ◌and◌
 and_off a b e = rw e refl
 
-pub ruleset operators = (amp_and, bar_or, and_right, or_right)
+-- a choice of two tests, both worked out
+pub choice : (w a b : Bool) → ((w && a) || (not w && b)) ≡ cond w a b
+choice true true b = refl
+choice true false b = refl
+choice false a b = refl
 
--- no place yet, and one place more: `fits &= turn`
+pub only_where : (w a : Bool) → (not w || a) ≡ cond w a true
+only_where true a = refl
+only_where false a = refl
+
+pub ruleset operators = (amp_and, bar_or, and_right, or_right, choice, only_where)
+
+-- a conjunction carried through a loop over a table, one place more: `fits &= turn`
 pub fits_amp : (p : ℕ → Bool) (j : ℕ) (fits turn : Bool) → fits ≡ allb j p → turn ≡ p j → (fits && turn) ≡ allb (j + 1) p
 unfolding allb
 fits_amp p j fits turn e q = rw (add-one, e, q) (amp_swap (allb j p) (p j))

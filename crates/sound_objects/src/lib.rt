@@ -18,7 +18,7 @@ fn mutex_fits(used: bool, tasks: u8, kind: u8, owner: u8) -> bool
 {
     let made = (kind < KINDS) & ((owner == NONE) | (owner < tasks));
     let unmade = (kind == 0) & (owner == NONE);
-    if used { made } else { unmade }
+    (used & made) | (!used & unmade)
 }
 
 // Kinds are in range and "owners exist".
@@ -38,7 +38,7 @@ fn semaphore_fits(used: bool, count: u32, maximum: u32) -> bool
 {
     let made = (count <= maximum) & (0 < maximum);
     let unmade = (count == 0) & (maximum == 0);
-    if used { made } else { unmade }
+    (used & made) | (!used & unmade)
 }
 
 // "counts at most their maximum, maximum at least 1"
@@ -80,12 +80,9 @@ fn is_blocked(kind: u8, object: u8, semaphores: u8, next: u8, empty: u8) -> bool
     ensures { result ≡ blocked_fits kind object semaphores next empty }
 {
     let by_count = (object < semaphores) & (empty == 1);
-    let other = if kind == ON_SEMAPHORE { by_count } else { true };
-    if kind == ON_MUTEX {
-        next != NONE
-    } else {
-        other
-    }
+    let for_mutex = kind == ON_MUTEX;
+    let for_another = (kind != ON_SEMAPHORE) | by_count;
+    (for_mutex & (next != NONE)) | (!for_mutex & for_another)
 }
 
 // "each waiter waits for an existing object that isn't available to it (mutex owned, semaphore at 0) or for time"

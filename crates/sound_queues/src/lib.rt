@@ -37,7 +37,7 @@ fn queue_fits(used: bool, tasks: u8, width: u8, depth: u8, owner: u8, oldest: u8
     let made = width_fits(width) & depth_fits(depth) & exists & ring;
     let none = (oldest == 0) & (count == 0);
     let unmade = (width == 0) & (depth == 0) & (owner == NONE) & none;
-    if used { made } else { unmade }
+    (used & made) | (!used & unmade)
 }
 
 // Does a column hold 0 at every place? Of the counts: has no queue a message?

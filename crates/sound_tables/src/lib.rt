@@ -1,4 +1,6 @@
 // The columns of the table of tasks: one function for each phrase of "sound state", over all places at once. Unused places pass what a task must.
+// Tests are joined and chosen by `&`, `|` and `!`, which work out both sides: a loop over a table then has no branch, and becomes a few operations on all
+// its places. An `if` between two tests of a function is compiled to a branch for each place.
 #![tactic(auto, using(lists::specs::OperatorLaws::operators, lists::specs::OperatorLaws::fits_amp, lists::specs::LoopLaws::all_none), unfolding(record::specs::SoundRecord::is_object_wait, checks::specs::Checks::wait_fits, checks::specs::Checks::time_fits, checks::specs::Checks::outcome_fits))]
 
 ghost use Rattle.std.specs.Prelude.{◌≡◌};
@@ -51,7 +53,7 @@ fn wait_fits(kind: u8, object: u8, timed: u8) -> bool
 {
     let objects = (object == 0) | for_object(kind);
     let times = (timed <= 1) & ((timed == 0) | (kind != NO_WAIT));
-    (kind <= ON_RECEIVE) & objects & times
+    (kind <= ON_RECEIVE) & (objects & times)
 }
 
 // Waits are of a kind that there is, and hold what belongs to that kind.
@@ -83,7 +85,8 @@ fn time_fits(kind: u8, timed: u8, due: u32, clock: u32) -> bool
     let left = reads::ticks_left(due, clock);
     let in_time = (0 < left) & (left <= MAX_TICKS);
     let untimed = (due == 0) & (kind != ON_TIME);
-    if timed == 1 { in_time } else { untimed }
+    let has_time = timed == 1;
+    (has_time & in_time) | (!has_time & untimed)
 }
 
 // "each timed wait has 1 to 2147483647 ticks left and each sleep is timed"
@@ -107,11 +110,8 @@ fn outcome_fits(kind: u8, outcome: u8) -> bool
     ensures { result ≡ outcome_fits kind outcome }
 {
     let ended = (outcome == GRANTED) | (outcome == TIMED_OUT) | (outcome == FLUSHED);
-    if kind == NO_WAIT {
-        ended
-    } else {
-        outcome == PENDING
-    }
+    let apart = kind == NO_WAIT;
+    (apart & ended) | (!apart & (outcome == PENDING))
 }
 
 // "outcomes 0, 1, 20 or 21, and 1 exactly for waiting tasks"

@@ -142,9 +142,6 @@ raised_alone own next l n j e some-fuel task nowhere =
     (lift_on next j l (get_or own j 0) l l n some-fuel task (raise_not next j l (get_or own j 0) b)
     (lift_out next (get_or next j 0) l (get_or own j 0) (n - 1) nowhere))
 
-pub raised_done : (own next l : List ℕ) (n j m : ℕ) → m ≡ j → l ≡ raised own next n j → l ≡ raised own next n m
-raised_done own next l n j m q e = rw q e
-
 -- what is lent, task by task
 pub lent_none : (own to level : List ℕ) → own ≡ lent_by own to level 0
 unfolding lent_by

@@ -1,8 +1,6 @@
 -- `walks::levels_of` meets its contract. The loop keeps the levels after the first j tasks. Assumes nothing.
 use mathlib.Core.Path.{◌≡◌}
-use Prim.Native.Nat.{◌-◌, ◌≤◌}
 use Rattle.walks.specs.Walk.{raised}
-use Rattle.rules.specs.Sizes.{task_places}
 use Rattle.walks.proofs.levels_of.Given as goal
 
 abbrev pub invariant-loop-j : goal.invariant-loop-j
