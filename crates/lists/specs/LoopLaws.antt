@@ -4,7 +4,7 @@ use Rattle.std.proofs.Math.Path.{refl}
 use Rattle.std.proofs.Common.{sym, ◌∙◌, inl, inr}
 use Rattle.std.proofs.Math.Numerals.{add-one}
 use Rattle.std.proofs.lemmas.Bool.{not-true, not-false}
-use Rattle.lists.specs.Test.{allb}
+use Rattle.lists.specs.Test.{allb, ◌and◌}
 use Rattle.lists.specs.TestLaws.{which, clash, true_and, all_true}
 
 -- what a call answers of a test, after `if !call`
@@ -15,6 +15,13 @@ pub test_failed : {r b : Bool} → r ≡ b → not r ≡ true → b ≡ false
 test_failed {r} e h = sym e ∙ not-true r h
 
 module _ (p : ℕ → Bool) where
+  pub fits_more : (j : ℕ) (fits next : Bool) → fits ≡ allb j p → next ≡ p j and fits → next ≡ allb (j + 1) p
+  unfolding allb
+  fits_more j fits next e q = rw (add-one, ← e) q
+
+  pub fits_done : (j n : ℕ) (fits : Bool) → j ≡ n → fits ≡ allb j p → fits ≡ allb n p
+  fits_done j n fits q e = rw (← q) e
+
   pub all_none : true ≡ allb 0 p
   unfolding allb
   all_none = refl

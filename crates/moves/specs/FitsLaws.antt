@@ -1,9 +1,14 @@
 -- Laws of whether a move fits: each test holds just where its facts do.
-use Rattle.std.specs.Prelude.{◌≡◌, refl, Bool, true, false, ℕ, ◌+◌, ◌≤◌}
-use borrow.Author.Tests.{le-leb, leb-true}
+use Rattle.std.specs.Prelude.{◌≡◌, refl, Bool, true, false, ℕ, ◌+◌, ◌≤◌, ◌<◌}
+use borrow.Author.Tests.{le-leb, leb-true, lt-leb}
 use Rattle.lists.specs.Test.{◌and◌}
 use Rattle.lists.specs.TestLaws.{and_l, and_r, true_and}
 use Rattle.moves.specs.Fits.{can_hold, can_queue, can_take, can_swap, Holds, Takes, Swaps}
+
+-- a test fails where what it shows cannot be
+fails : (b : Bool) {F : Type 0} → (b ≡ true → F) → (F → ⊥) → b ≡ false
+fails true f g = absurd (g (f refl))
+fails false f g = refl
 
 module _ (table task n : ℕ) where
   pub holds : can_hold table task n ≡ true → Holds table task n
@@ -14,6 +19,9 @@ module _ (table task n : ℕ) where
   unfolding can_hold
   holds_test h = true_and _ _ (le-leb _ _ h.place) (le-leb _ _ h.size)
 
+  pub holds_not : (Holds table task n → ⊥) → can_hold table task n ≡ false
+  holds_not = fails _ holds
+
 module _ (block place n : ℕ) where
   pub queues : can_queue block place n ≡ true → place + n ≤ block
   unfolding can_queue
@@ -22,6 +30,10 @@ module _ (block place n : ℕ) where
   pub queues_test : place + n ≤ block → can_queue block place n ≡ true
   unfolding can_queue
   queues_test h = le-leb _ _ h
+
+  pub queues_not : block < place + n → can_queue block place n ≡ false
+  unfolding can_queue
+  queues_not h = lt-leb _ _ h
 
 module _ (table block place width task : ℕ) where
   pub takes : can_take table block place width task ≡ true → Takes table block place width task

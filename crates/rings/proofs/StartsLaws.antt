@@ -9,9 +9,17 @@ use Rattle.rings.specs.Ring.{Ring, past, Apart}
 use Rattle.rings.specs.Starts.{queue_places, start_of, Placed, at_most_all}
 
 module _ (ws ds : List ℕ) where
+  pub start_zero : start_of ws ds 0 ≡ 0
+  unfolding start_of
+  start_zero = refl
+
   pub start_next : (j : ℕ) → start_of ws ds (j + 1) ≡ start_of ws ds j + get_or ws j 0 * get_or ds j 0
   unfolding start_of
   start_next j = rw add-one refl
+
+  -- for the code: one queue more
+  pub start_more : (j sum size : ℕ) → sum ≡ start_of ws ds j → size ≡ get_or ws j 0 * get_or ds j 0 → sum + size ≡ start_of ws ds (j + 1)
+  start_more j sum size e f = rw (start_next j, e, f) refl
 
   -- a queue ends before a later one begins
   pub start_behind : (j k : ℕ) → j < k → start_of ws ds j + get_or ws j 0 * get_or ds j 0 ≤ start_of ws ds k

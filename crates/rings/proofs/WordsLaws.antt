@@ -1,8 +1,8 @@
 -- Laws of words in lent memory.
-use Rattle.std.specs.Prelude.{◌≡◌, List, ◌++◌, ℕ, ◌+◌, ◌-◌, ◌≤◌, length, get_or, take, drop}
+use Rattle.std.specs.Prelude.{◌≡◌, List, ◌++◌, ℕ, ◌+◌, ◌-◌, ◌≤◌, length, get_or, take, drop, refl}
 use Rattle.std.proofs.Common.{ap, sym, ◌∙◌, append-nil, inl, inr, arith, length-append, length-drop, take-append-drop, length-take-le, drop_at, take-add, get_or-take, get_or-drop}
 use Rattle.std.proofs.lemmas.List.{take-append-le, drop-append-le}
-use Rattle.std.proofs.Math.Seq.{drop-append-add, take-length}
+use Rattle.std.proofs.Math.Seq.{drop-append-add, take-length, paste}
 use Rattle.lists.specs.Table.{pad}
 use Rattle.rings.specs.Words.{words, laid, padded, Off}
 
@@ -70,3 +70,7 @@ laid_word l at ws h i o = sym (word_of (laid l at ws) i) ∙ ap (λ (x : List �
 pub padded_full : (n : ℕ) (ws : List ℕ) → length ws ≡ n → padded n ws ≡ ws
 unfolding pad
 padded_full n ws e = (let z : n - length ws ≡ 0 = omega arith in rw z (append-nil ws))
+
+-- a copy of all of ws is ws laid
+pub paste_all : (l : List ℕ) (at : ℕ) (ws : List ℕ) (n : ℕ) → length ws ≡ n → paste l at ws n ≡ laid l at ws
+paste_all l at ws n e = rw (← e, take-length ws) refl
