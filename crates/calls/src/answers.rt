@@ -15,7 +15,7 @@ fn join(number: u8, value: u32, run: u8) -> u64
     number as u64 + run as u64 * BYTE + value as u64 * WORD
 }
 
-// An answer in one number, from which each part comes out again.
+// An answer in one number, from which each part comes out again. No `From`: neither the answer nor `u64` is a type of this crate.
 #[tactic(auto, unfolding(record::specs::StepRecord::number_of, record::specs::StepRecord::value_of, record::specs::StepRecord::run_of))]
 pub fn answer_code(x: Answer) -> u64
     ensures { Carries result x }

@@ -52,7 +52,8 @@ pub const MAX_HOLD: u8 = 255;
 // Stands for no task.
 pub const NONE: u8 = task_lists::NONE;
 
-// What a task waits for: nothing, a mutex, a semaphore, time, room in a queue, a message in it.
+// What a task waits for: nothing, a mutex, a semaphore, time, room in a queue, a message in it. Bytes and no enum, here and below: they stand in columns
+// that C reads, and a record with any bytes may be handed in.
 pub const NO_WAIT: u8 = 0;
 
 pub const ON_MUTEX: u8 = 1;
@@ -79,7 +80,8 @@ pub const MAX_TICKS: u32 = 2147483647;
 
 pub const FOREVER: u32 = 4294967295;
 
-// The tasks, one place in each table for each. `due` is the clock at which a timed wait ends.
+// The tasks, one place in each table for each: columns with a count and no table of tasks, as C has them, with no heap, and a loop over a column is a few
+// operations. `due` is the clock at which a timed wait ends.
 #[repr(C)]
 #[derive(Clone, Copy, PartialEq, Eq)]
 pub struct Tasks {
@@ -171,7 +173,8 @@ pub enum Request {
     Word { task: u32, n: u32 },
 }
 
-// An answer's number and value, and the task to run, or NONE.
+// An answer's number and value, and the task to run, or NONE. Numbers alone in both cases: `script_lines::run::log_answer` splits it by `let else`, which
+// is a form that stays.
 #[derive(Clone, Copy)]
 pub enum Answer {
     Accepted { number: u8, value: u32, run: u8 },

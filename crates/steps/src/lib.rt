@@ -7,7 +7,7 @@ ghost use Rattle.machine.specs.Machine.{machine_step};
 use record::{Plan, Request, State};
 
 // The step of a request, before any word is moved; on a sound record it is what the rules answer (`MachineLaws.sound_step`). A message beside it has
-// `count` words, the lent block has `space` words, and tasks hold `words`.
+// `count` words, the lent block has `space` words, and tasks hold `words`. A match, as each step has numbers of its own: a table of functions is no plainer.
 pub fn perform(s: State, x: Request, count: usize, space: usize, words: &[u32]) -> Plan
     ensures { result ≡ machine_step s x count space words.now }
 {

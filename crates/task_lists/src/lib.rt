@@ -14,6 +14,7 @@ pub const NONE: u8 = 255;
 // How many levels there are.
 pub const LEVELS: u8 = 32;
 
+// A table with its count, and no Vec: fixed memory, laid out as C has it.
 #[repr(C)]
 #[derive(Clone, Copy, PartialEq, Eq)]
 pub struct TaskList {

@@ -71,7 +71,7 @@ pub fn lent_levels<'a>(own: [u8; TASKS], to: &'a [u8; TASKS], level: &'a [u8; TA
     l
 }
 
-// What a walk along a chain found: how many tasks stand before the caller, and whether it came to the caller.
+// What a walk along a chain found: how many tasks stand before the caller, and whether it came to the caller. No Result: the links stand with either end.
 #[derive(Drop)]
 pub struct Found {
     pub links: u8,
