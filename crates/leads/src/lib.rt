@@ -1,5 +1,5 @@
 // Who leads to whom by what each task waits for, and the levels that follow.
-#![tactic(auto, using(lists::specs::OperatorLaws::operators, lists::specs::OperatorLaws::fits_amp, lists::specs::LoopLaws::all_none))]
+#![tactic(auto, using(lists::specs::OperatorLaws::operators, lists::specs::OperatorLaws::fits_amp, lists::specs::LoopLaws::all_none), unfolding(record::specs::Reads::new_levels))]
 
 ghost use Rattle.std.specs.Prelude.{◌≡◌, cond, not, ltb, eqb, length, get_or};
 ghost use Rattle.lists.specs.Test.{◌or◌, allb};
@@ -23,19 +23,11 @@ use walks::Found;
 fn led_to(kind: u8, object: u8, holder: u8, receiver: u8) -> u8
     ensures { result ≡ cond (eqb kind on_mutex) (cond (ltb object max_mutexes) holder no_id) (cond (eqb kind on_send) (cond (ltb object max_queues) receiver no_id) no_id) }
 {
-    if kind == ON_MUTEX {
-        if MAX_MUTEXES <= object {
-            return NONE;
-        }
-        return holder;
+    match kind {
+        ON_MUTEX if object < MAX_MUTEXES => holder,
+        ON_SEND if object < MAX_QUEUES => receiver,
+        _ => NONE,
     }
-    if kind != ON_SEND {
-        return NONE;
-    }
-    if MAX_QUEUES <= object {
-        return NONE;
-    }
-    receiver
 }
 
 // Whom each task leads to, one after another. The tables are read whatever the kind of wait is, so that no branch hangs on it.
@@ -113,12 +105,8 @@ pub fn heirs_of(m: Mutexes) -> [u8; MUTEXES]
 pub fn new_levels(t: Tasks, m: Mutexes, queues: [u8; QUEUES]) -> [u8; TASKS]
     ensures { (x : Queues) → x.owner ≡ queues → result ≡ new_levels t m x }
 {
-    let waits = t.wait;
-    let objects = t.object;
-    let heirs = heirs_of(m);
-    let lends = leads_of(&waits, &objects, heirs, queues);
-    let own = t.priority;
-    walks::levels_of(own, &lends, t.n)
+    let lends = leads_of(&t.wait, &t.object, heirs_of(m), queues);
+    walks::levels_of(t.priority, &lends, t.n)
 }
 
 // What the walk from an owner along the owners of what is waited for finds: its end, or the caller.
@@ -126,8 +114,6 @@ pub fn chain(t: Tasks, mutexes: [u8; MUTEXES], queues: [u8; QUEUES], owner: u8, 
     ensures links { result.links ≡ length (before caller (chain_from (filled task_places (leads_at t mutexes queues)) owner t.n)) }
     ensures ring { result.ring ≡ member caller (chain_from (filled task_places (leads_at t mutexes queues)) owner t.n) }
 {
-    let waits = t.wait;
-    let objects = t.object;
-    let next = leads_of(&waits, &objects, mutexes, queues);
+    let next = leads_of(&t.wait, &t.object, mutexes, queues);
     walks::follow(&next, owner, caller, t.n)
 }

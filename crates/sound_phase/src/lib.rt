@@ -1,5 +1,5 @@
 // Does the phase, set-up or started, have what it owes?
-#![tactic(auto)]
+#![tactic(auto, using(lists::specs::OperatorLaws::operators, checks::specs::TestedLaws::unused_same), unfolding(checks::specs::Checks::started_in, checks::specs::Checks::at_rest, checks::specs::Checks::set_up_in))]
 
 ghost use Rattle.std.specs.Prelude.{◌≡◌};
 ghost use Rattle.checks.specs.Checks.{started_in, at_rest, set_up_in};
@@ -12,34 +12,18 @@ pub fn started_in(levels: [u8; TASKS], ready: TaskList, running: u8, hold: u8) -
     ensures { result ≡ started_in levels ready running hold }
 {
     if running == NONE {
-        if ready.n != 0 {
-            return false;
-        }
-        return hold == 0;
+        return ready.n == 0 && hold == 0;
     }
-    if hold != 0 {
-        return true;
-    }
-    if ready.n == 0 {
-        return true;
-    }
-    task_lists::key_of(levels, running) <= task_lists::key_of(levels, ready.ids[0])
+    hold != 0
+        || ready.n == 0
+        || task_lists::key_of(levels, running) <= task_lists::key_of(levels, ready.ids[0])
 }
 
 // In set-up: clock 0, hold 0, nobody running or waiting.
 pub fn at_rest(clock: u32, hold: u8, running: u8, waiting: u8) -> bool
     ensures { result ≡ at_rest clock hold running waiting }
 {
-    if clock != 0 {
-        return false;
-    }
-    if hold != 0 {
-        return false;
-    }
-    if running != NONE {
-        return false;
-    }
-    waiting == 0
+    clock == 0 && hold == 0 && running == NONE && waiting == 0
 }
 
 // In set-up: no mutex owned, outcomes 0, as those of unused places are, queues empty, words 0, and equal levels by id.
@@ -53,18 +37,10 @@ pub fn set_up_in(
 ) -> bool
     ensures { result ≡ set_up_in owners outcomes ready levels used words.now }
 {
-    if !sound_objects::all_free(&owners) {
-        return false;
-    }
     let none = task_list_checks::used_places(0);
-    if !sound_tables::unused(&outcomes, &none) {
-        return false;
-    }
-    if !sound_queues::all_empty(&used) {
-        return false;
-    }
-    if !sound_words::words_zero(words) {
-        return false;
-    }
-    task_list_checks::ties_by_id(ready, levels)
+    sound_objects::all_free(&owners)
+        && sound_tables::unused(&outcomes, &none)
+        && sound_queues::all_empty(&used)
+        && sound_words::words_zero(words)
+        && task_list_checks::ties_by_id(ready, levels)
 }

@@ -1,5 +1,5 @@
 // The waits at queues, for what isn't available: a waiting sender's queue is full, a waiting receiver's empty.
-#![tactic(auto, using(lists::specs::OperatorLaws::operators, lists::specs::OperatorLaws::fits_amp, lists::specs::LoopLaws::all_none), unfolding(checks::specs::Checks::queue_wait_fits))]
+#![tactic(auto, using(lists::specs::OperatorLaws::operators, lists::specs::OperatorLaws::fits_amp, lists::specs::LoopLaws::all_none), unfolding(checks::specs::Checks::queue_wait_fits, checks::specs::Checks::queue_wait_fits))]
 
 ghost use Rattle.std.specs.Prelude.{◌≡◌, not, ltb, eqb, get_or};
 ghost use Rattle.lists.specs.Test.{◌and◌, ◌or◌, allb};
@@ -20,45 +20,26 @@ fn at(column: [u8; QUEUES], q: u8) -> u8
 fn sender_fits(x: Queues, words: &[u32], i: u8, q: u8) -> bool
     ensures { result ≡ ltb q x.n and eqb (get_or x.used q 0) (get_or x.depth q 0) and past_at words.now i (get_or x.width q 0) }
 {
-    if x.n <= q {
-        return false;
-    }
-    let used = x.used;
-    let depth = x.depth;
-    if at(used, q) != at(depth, q) {
-        return false;
-    }
-    let width = x.width;
-    sound_words::past(words, i, at(width, q))
+    q < x.n && at(x.used, q) == at(x.depth, q) && sound_words::past(words, i, at(x.width, q))
 }
 
 // Task `i` waits to receive from queue `q`: it is there and empty, and has no owner or is the task's own.
 fn receiver_fits(x: Queues, i: u8, q: u8) -> bool
     ensures { result ≡ ltb q x.n and eqb (get_or x.used q 0) 0 and (eqb (get_or x.owner q 0) no_id or eqb (get_or x.owner q 0) i) }
 {
-    if x.n <= q {
-        return false;
-    }
-    let used = x.used;
-    if at(used, q) != 0 {
-        return false;
-    }
-    let owners = x.owner;
-    let owner = at(owners, q);
-    (owner == NONE) | (owner == i)
+    let owner = at(x.owner, q);
+    q < x.n && at(x.used, q) == 0 && (owner == NONE || owner == i)
 }
 
 // Whatever task `i` waits for, if it is a queue it isn't available to it.
 fn wait_fits(x: Queues, words: &[u32], i: u8, kind: u8, q: u8) -> bool
     ensures { result ≡ queue_wait_fits x words.now i kind q }
 {
-    if kind == ON_SEND {
-        return sender_fits(x, words, i, q);
+    match kind {
+        ON_SEND => sender_fits(x, words, i, q),
+        ON_RECEIVE => receiver_fits(x, i, q),
+        _ => true,
     }
-    if kind == ON_RECEIVE {
-        return receiver_fits(x, i, q);
-    }
-    true
 }
 
 // All waits at queues, task by task.
