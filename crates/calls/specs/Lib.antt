@@ -2,3 +2,4 @@
 pub mod Call
 pub mod CallLaws
 pub mod Packed
+pub mod PlanLaws

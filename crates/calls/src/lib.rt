@@ -7,7 +7,6 @@ ghost use Rattle.machine.specs.Planned.{carried};
 ghost use Rattle.kernel.specs.Planning.{Known};
 ghost use Rattle.calls.specs.Call.{request_of, call_of};
 
-use kernel::refused;
 use record::{Plan, Request, State};
 
 pub mod answers;
@@ -62,8 +61,8 @@ pub fn call(s: State, x: Option<Request>, count: usize, space: usize, words: &[u
     tested_call(s, sound, x, count, space, words)
 }
 
-// The same on a record that was tested before: `sound` is what the test said. It is `kernel::plan` for what is asked by code, but not by calling that: each
-// function that the record goes through by value is a copy of it.
+// The same on a record that was tested before: `sound` is what the test said.
+#[tactic(auto, using(crate::specs::PlanLaws::plan_calls))]
 pub fn tested_call(
     s: State,
     sound: bool,
@@ -74,16 +73,5 @@ pub fn tested_call(
 ) -> Plan
     ensures { (m block : List ℕ) → length m ≡ count → length block ≡ space → Known sound (whole s words.now block) → carried (whole s words.now block) m result ≡ call_of (whole s words.now block) x m }
 {
-    let Some(request) = x else {
-        let no_step = refused::malformed(s, sound);
-        return kernel::stay(s, no_step);
-    };
-    if !kernel::is_formed(request, count) {
-        let no_message = refused::malformed(s, sound);
-        return kernel::stay(s, no_message);
-    }
-    if !sound {
-        return kernel::stay(s, refused::unsound());
-    }
-    steps::perform(s, request, count, space, words)
+    kernel::plan(s, sound, x, count, space, words)
 }
