@@ -21,7 +21,8 @@ pub fn answer_code(x: Answer) -> u64
     ensures { Carries result x }
 {
     match x {
-        Answer::Accepted { number, value, run } => join(number, value, run),
-        Answer::Refused { number, value, run } => join(number, value, run),
+        Answer::Accepted { number, value, run } | Answer::Refused { number, value, run } => {
+            join(number, value, run)
+        }
     }
 }

@@ -69,12 +69,9 @@ pub fn step(s: State, x: Request, message: &[u32], words: &mut [u32], block: &mu
 {
     let sound = sound::is_sound(s, words, block.len());
     let p = plan(s, sound, Some(x), message.len(), block.len(), words);
-    let next = p.state;
-    let a = p.answer;
-    let m = p.moves;
-    moves::make(m, words, message, block);
+    moves::make(p.moves, words, message, block);
     Out {
-        state: next,
-        answer: a,
+        state: p.state,
+        answer: p.answer,
     }
 }

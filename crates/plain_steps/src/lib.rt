@@ -1,10 +1,11 @@
 // Yield, hold and free, level, outcome, word: the refusals in the order of the table, then what the step does.
 #![tactic(auto, using(record::specs::RefusedLaws::refusal_some), unfolding(record::specs::Refused::refusal_code, record::specs::Refused::refusal_number, machine::specs::Machine::called_by, machine::specs::Machine::yield_step, machine::specs::Machine::hold_step, machine::specs::Machine::free_step, machine::specs::Machine::level_step, machine::specs::Machine::outcome_step, machine::specs::Machine::word_step))]
 
-ghost use Rattle.std.specs.Prelude.{◌≡◌};
-ghost use Rattle.machine.specs.Machine.{yield_step, hold_step, free_step, level_step, outcome_step, word_step};
+ghost use Rattle.std.specs.Prelude.{◌≡◌, cond, leb};
+ghost use Rattle.task_lists.specs.TaskList.{key_of};
+ghost use Rattle.machine.specs.Machine.{answer_in, yield_step, hold_step, free_step, level_step, outcome_step, word_step};
 
-use record::{EIGHT, MAX_HOLD, NONE, Plan, Refusal, State};
+use record::{EIGHT, MAX_HOLD, NONE, Plan, Refusal, State, TASKS};
 use replies::{answers, refusals};
 
 #[inline(never)]
@@ -53,26 +54,29 @@ pub fn free(mut s: State) -> Plan
     answers::done(s, 0)
 }
 
-#[inline(never)]
-pub fn level(s: State, i: u32) -> Plan
-    ensures { result ≡ level_step s i }
+// What a column holds for a task.
+fn of_task(s: State, task: u32, column: [u8; TASKS]) -> Plan
+    ensures { result ≡ cond (leb s.tasks.n task) (answer_in s 6 0) (answer_in s 0 (key_of column task)) }
 {
-    if s.tasks.n as u32 <= i {
+    if s.tasks.n as u32 <= task {
         return answers::refused(s, Refusal::NoSuchObject);
     }
-    let v = task_lists::key_of(s.tasks.level, i as u8);
+    let v = task_lists::key_of(column, task as u8);
     answers::done(s, v as u32)
+}
+
+#[inline(never)]
+pub fn level(s: State, task: u32) -> Plan
+    ensures { result ≡ level_step s task }
+{
+    of_task(s, task, s.tasks.level)
 }
 
 #[inline(never)]
 pub fn outcome(s: State, task: u32) -> Plan
     ensures { result ≡ outcome_step s task }
 {
-    if s.tasks.n as u32 <= task {
-        return answers::refused(s, Refusal::NoSuchObject);
-    }
-    let v = task_lists::key_of(s.tasks.outcome, task as u8);
-    answers::done(s, v as u32)
+    of_task(s, task, s.tasks.outcome)
 }
 
 // A word that a task holds; `words` has eight for each task.

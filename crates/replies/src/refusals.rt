@@ -49,12 +49,10 @@ pub fn of_timed(started: u8, running: u8, n: u8, object: u32, time: u32) -> Resu
 pub fn of_wait(hold: u8, time: u32) -> Result<(), Refusal>
     ensures { refusal_code result ≡ wait_refusal hold time }
 {
-    let at_once = time == 0;
-    let held = 0 < hold;
-    if at_once {
+    if time == 0 {
         return Err(Refusal::WouldWait);
     }
-    if held {
+    if hold != 0 {
         return Err(Refusal::Held);
     }
     Ok(())

@@ -19,7 +19,6 @@ use Rattle.text.specs.Place.{room, put_answer, put_bytes}
 use Rattle.script_lines.specs.LineRun.{awaiting, running, line_answered, line_for, head_log, head_stage, headed, memory_head}
 use Rattle.script.specs.Session.{log_at, line_log, line_whole, line_stage, Taken, line_taken, taken_memory, step_at, logged_at, line_in, lineb, found_taken, found_memory}
 use Rattle.script_lines.specs.declared.run.Headed.{Headed}
-use Rattle.script.specs.declared.session.Logged.{Logged}
 
 none_some : {A : Type 0} {x : A} → ◌≡◌ {A = RustOption A} None (Some x) → ⊥
 none_some e = let z : ◌≡◌ {A = ℕ} 0 1 = cc in omega arith
@@ -98,7 +97,7 @@ module _ (k : Whole) (stage : ℕ) (line memory : List ℕ) (o : After) (is : o 
   unfolding taken_memory
   logged_memory = ap (put_bytes memory 0) log_at_lem
 
-  pub logged_taken : (l : Logged) → Some l ≡ logged_at stage o.answer line memory → (record { whole = o.whole; stage = l.stage; written = l.written; full = false }) ≡ line_taken k stage line memory
+  pub logged_taken : (l : Headed) → Some l ≡ logged_at stage o.answer line memory → (record { whole = o.whole; stage = l.stage; written = l.written; full = false }) ≡ line_taken k stage line memory
   unfolding logged_at line_taken
   logged_taken l so = elim (which (room memory 0 (line_log k stage line))) [
     | inl r ↦

@@ -15,7 +15,7 @@ use Rattle.words.specs.Form.{step_on}
 use Rattle.script_lines.specs.LineRun.{awaiting, running, line_answered, line_for, head_log, head_stage}
 use Rattle.script.specs.declared.session.Session.{Session}
 use Rattle.script.specs.declared.session.Moved.{Moved}
-use Rattle.script.specs.declared.session.Logged.{Logged}
+use Rattle.script_lines.specs.declared.run.Headed.{Headed}
 
 -- a fresh record, the first line awaited, nothing held
 unfoldable pub fresh_session : Session
@@ -74,7 +74,7 @@ taken_memory h stage line memory = put_bytes memory 0 (line_log h stage line)
 unfoldable pub step_at : ℕ → List ℕ → Option Step
 step_at stage line = cond (eqb stage running) (step_on line) none
 
-unfoldable pub logged_at : ℕ → Answer → List ℕ → List ℕ → RustOption Logged
+unfoldable pub logged_at : ℕ → Answer → List ℕ → List ℕ → RustOption Headed
 logged_at stage a line memory =
     cond (room memory 0 (log_at stage a line)) (Some (record { stage = line_stage stage line; written = length (log_at stage a line) })) None
 

@@ -24,7 +24,7 @@ use Rattle.text.specs.Lines.{line_from, line_end}
 use Rattle.text.specs.Place.{room, put_bytes}
 use Rattle.script_lines.specs.LineRun.{awaiting, line_answered}
 use Rattle.script.specs.Session.{fresh_session, Script, script_of, fresh_script, log_at, Taken, line_taken, taken_memory, step_at, logged_at, line_in, lineb, found_taken, found_memory, Turn, turn_with, turned, Stand, fed_at, carry_at, line_at, free_of, turn_at, stand_at, stop_at, through, last_arrivals, left_arrivals, leftb, end_run, end_memory}
-use Rattle.script.specs.declared.session.Logged.{Logged}
+use Rattle.script_lines.specs.declared.run.Headed.{Headed}
 use Rattle.script.specs.LineLaws.{logged_memory, logged_taken, logged_stopped, line_taken_lem, line_memory, none_found, stop_memory, stop_taken, found_short}
 
 -- the session that a script begins with, lent as many words as the tasks hold, all 0, and any block, is the fresh script
@@ -90,7 +90,7 @@ pub rest_back : (l : List ℕ) (w : ℕ) (m : List ℕ) → take w l ++ (m ++ dr
 rest_back l w m = rw (rest_none l w) (ap (λ z. take w l ++ z) (append-nil m))
 
 -- a line that was found, answered and logged, as the loop goes
-pub record Run (bytes : List ℕ) (x : Stand) (f : Fed) (c line : List ℕ) (o : After) (l : RustOption Logged) : Type 0 where
+pub record Run (bytes : List ℕ) (x : Stand) (f : Fed) (c line : List ℕ) (o : After) (l : RustOption Headed) : Type 0 where
   pub cut : f ≡ fed_at bytes x
   pub carried : c ≡ carry_at bytes x
   pub ended : lineb f.found ≡ true
@@ -99,13 +99,13 @@ pub record Run (bytes : List ℕ) (x : Stand) (f : Fed) (c line : List ℕ) (o :
   pub logged : l ≡ logged_at x.session.stage o.answer line (free_of x)
 
 -- one turn of the loop: what stands then, and what is left to do, is what was to do before it
-module _ (bytes : List ℕ) (x : Stand) (f : Fed) (c line : List ℕ) (o : After) (got : RustOption Logged) (r : Run bytes x f c line o got) where
+module _ (bytes : List ℕ) (x : Stand) (f : Fed) (c line : List ℕ) (o : After) (got : RustOption Headed) (r : Run bytes x f c line o got) where
   run_found : line_taken x.session.whole x.session.stage line (free_of x) ≡ found_taken x.session.whole x.session.stage (arrivals_of c bytes f.found) (free_of x)
   run_found =
       ap (λ z. line_taken x.session.whole x.session.stage z (free_of x)) r.line_is
       ∙ line_taken_lem x.session.whole x.session.stage c bytes (free_of x) f.found r.ended
 
-  run_turn : (l : Logged) → got ≡ Some l → turn_with f (record { whole = o.whole; stage = l.stage; written = l.written; full = false }) ≡ turn_at bytes x
+  run_turn : (l : Headed) → got ≡ Some l → turn_with f (record { whole = o.whole; stage = l.stage; written = l.written; full = false }) ≡ turn_at bytes x
   unfolding turn_at
   run_turn l is =
       turn_same x.session bytes (free_of x) f (fed_at bytes x) c (carry_at bytes x) r.cut r.carried _
@@ -117,7 +117,7 @@ module _ (bytes : List ℕ) (x : Stand) (f : Fed) (c line : List ℕ) (o : After
       sym (ap (λ (u : Turn). u.full) (turn_same x.session bytes (free_of x) f (fed_at bytes x) c (carry_at bytes x) r.cut r.carried _ run_found))
       ∙ logged_stopped x.session.whole x.session.stage line (free_of x) o r.answered (sym is ∙ r.logged)
 
-  pub run_short : (l : Logged) → got ≡ Some l → x.written ≤ length x.memory → x.written + l.written ≤ length x.memory
+  pub run_short : (l : Headed) → got ≡ Some l → x.written ≤ length x.memory → x.written + l.written ≤ length x.memory
   unfolding turn_at turned
   run_short l is h =
       let e : l.written ≡ (found_taken x.session.whole x.session.stage (line_at bytes x) (free_of x)).written = ap (λ (u : Turn). u.written) (run_turn l is) in
@@ -132,7 +132,7 @@ module _ (bytes : List ℕ) (x : Stand) (f : Fed) (c line : List ℕ) (o : After
         (logged_memory k stage line (free_of x) o r.answered ∙ ap (λ z. taken_memory k stage z (free_of x)) r.line_is ∙ line_memory k stage c bytes (free_of x) f.found r.ended) in
         v ∙ ap (λ z. take x.written x.memory ++ z) put
 
-    pub run_again : (l : Logged) → got ≡ Some l
+    pub run_again : (l : Headed) → got ≡ Some l
         → through (length bytes) bytes (record { session = record { whole = o.whole; stage = l.stage; held = f.held }; carry = c; memory = m; next = f.next; written = x.written + l.written })
         ≡ through (length bytes) bytes x
     unfolding stand_at

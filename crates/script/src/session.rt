@@ -7,7 +7,7 @@ ghost use Rattle.script.specs.Session.{fresh_session, script_of, lineb, leftb, s
 use arrive::Found;
 use record::{Answer, State};
 use script_lines::run;
-use script_lines::run::{AWAITING, RUNNING};
+use script_lines::run::{AWAITING, Headed, RUNNING};
 use syntax::Line;
 
 // What a script has come to: the record, where it stands, and how many bytes of a line the carry holds. The words that tasks hold, WORDS of them, and the
@@ -28,13 +28,6 @@ pub struct Moved {
     pub next: usize,
     pub written: usize,
     pub full: bool,
-}
-
-// What a line's log line came to: where the script then stands, and how many bytes of log were written.
-#[derive(Drop)]
-struct Logged {
-    stage: u8,
-    written: usize,
 }
 
 // A script before its first byte.
@@ -73,22 +66,18 @@ fn read(stage: u8, line: &[u8]) -> Line
 
 // A line's log line: of its answer, or of the first line. None where it has no room. A line after a bad first line is passed over.
 #[tactic(auto, using(crate::specs::LineLaws::log_lines))]
-fn log_line(stage: u8, a: Answer, line: &[u8], log: &mut [u8]) -> Option<Logged>
+fn log_line(stage: u8, a: Answer, line: &[u8], log: &mut [u8]) -> Option<Headed>
     ensures answer { result ≡ logged_at stage a line.now log.old }
     ensures memory { log.new ≡ put_bytes log.old 0 (log_at stage a line.now) }
 {
     if stage == RUNNING {
         let written = run::log_answer(a, log)?;
-        return Some(Logged { stage, written });
+        return Some(Headed { stage, written });
     }
     if stage == AWAITING {
-        let head = run::run_header(line, log)?;
-        return Some(Logged {
-            stage: head.stage,
-            written: head.written,
-        });
+        return run::run_header(line, log);
     }
-    Some(Logged { stage, written: 0 })
+    Some(Headed { stage, written: 0 })
 }
 
 // A piece of the script, with lent memory for the log lines of the lines that end in it. A line longer than the carry, which has LONGEST bytes,

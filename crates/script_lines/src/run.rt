@@ -11,8 +11,8 @@ use record::{Answer, EIGHT, Plan, State};
 use syntax::Line;
 use words::Message;
 
-// Where a script stands: its first line is awaited; steps are run; its first line was bad and nothing more is written. Bytes and no enum, as `Session.stage`
-// of `script` is handed in by callers, and every byte is promised to work.
+// Where a script stands: its first line is awaited; steps are run; its first line was bad and nothing more is written. Bytes and no enum, as they become
+// the `Session.stage` of `script`, which callers hand in, and every byte is promised to work.
 pub const AWAITING: u8 = 0;
 
 pub const RUNNING: u8 = 1;
@@ -30,7 +30,7 @@ pub struct Ran {
     pub written: usize,
 }
 
-// What the first line came to: where the script then stands, and how many bytes its log line took.
+// What a log line came to, or the first line's: where the script then stands, and how many bytes it took.
 #[derive(Drop)]
 pub struct Headed {
     pub stage: u8,

@@ -4,7 +4,7 @@
 mod room;
 
 ghost use Rattle.std.specs.Prelude.{◌≡◌};
-ghost use Rattle.machine.specs.Machine.{task_step, mutex_step, sem_step, queue_step, owned_queue_step, start_step};
+ghost use Rattle.machine.specs.Machine.{task_step, mutex_step, sem_step, queue_made, queue_step, owned_queue_step, start_step};
 
 use record::{KINDS, LEVELS, MAX_MUTEXES, MAX_SEMAPHORES, MAX_TASKS, NONE, Plan, Refusal, State};
 use replies::answers;
@@ -64,25 +64,32 @@ pub fn sem(mut s: State, count: u32, maximum: u32) -> Plan
     answers::done(s, id as u32)
 }
 
+// A queue of this owner, or of none, where there is room for it.
+fn made(mut s: State, width: u32, depth: u32, owner: u8, space: usize) -> Plan
+    ensures { result ≡ queue_made s width depth owner space }
+{
+    if let Err(no) = room::refusal(s.queues, width, depth, space) {
+        return answers::refused(s, no);
+    }
+    let id = s.queues.n;
+    s.queues = objects::add_queue(s.queues, width as u8, depth as u8, owner);
+    answers::done(s, id as u32)
+}
+
 // A queue that anybody may receive from; `space` is the length of the lent block, in words.
 #[inline(never)]
-pub fn queue(mut s: State, width: u32, depth: u32, space: usize) -> Plan
+pub fn queue(s: State, width: u32, depth: u32, space: usize) -> Plan
     ensures { result ≡ queue_step s width depth space }
 {
     if s.started != 0 {
         return answers::refused(s, Refusal::WrongPhase);
     }
-    if let Err(no) = room::refusal(s.queues, width, depth, space) {
-        return answers::refused(s, no);
-    }
-    let id = s.queues.n;
-    s.queues = objects::add_queue(s.queues, width as u8, depth as u8, NONE);
-    answers::done(s, id as u32)
+    made(s, width, depth, NONE, space)
 }
 
 // A queue that only its owner receives from.
 #[inline(never)]
-pub fn owned_queue(mut s: State, width: u32, depth: u32, owner: u32, space: usize) -> Plan
+pub fn owned_queue(s: State, width: u32, depth: u32, owner: u32, space: usize) -> Plan
     ensures { result ≡ owned_queue_step s width depth owner space }
 {
     if s.started != 0 {
@@ -92,12 +99,7 @@ pub fn owned_queue(mut s: State, width: u32, depth: u32, owner: u32, space: usiz
         return answers::refused(s, Refusal::NoSuchObject);
     }
     let receiver = owner as u8;
-    if let Err(no) = room::refusal(s.queues, width, depth, space) {
-        return answers::refused(s, no);
-    }
-    let id = s.queues.n;
-    s.queues = objects::add_queue(s.queues, width as u8, depth as u8, receiver);
-    answers::done(s, id as u32)
+    made(s, width, depth, receiver, space)
 }
 
 #[inline(never)]

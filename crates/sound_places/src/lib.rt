@@ -14,23 +14,14 @@ use record::{MUTEXES, NO_WAIT, QUEUES, TASK_PLACES, TASKS};
 fn waits_once(kind: u8) -> u8
     ensures { result ≡ waits_once kind }
 {
-    if kind == NO_WAIT {
-        return 0;
-    }
-    1
+    u8::from(kind != NO_WAIT)
 }
 
 // How often task `i` of `n` stands in the order of waits and the ready order together.
 fn stands_once(n: u8, running: u8, i: u8) -> u8
     ensures { result ≡ stands_once n running i }
 {
-    if running == i {
-        return 0;
-    }
-    if i < n {
-        return 1;
-    }
-    0
+    u8::from((running != i) & (i < n))
 }
 
 // Task `i` stands in one place: `waits` counts how often it waits, `all` how often it waits or is ready.

@@ -1,5 +1,5 @@
 // What each step does to a record.
-#![tactic(auto)]
+#![tactic(auto, unfolding(machine::specs::Machine::machine_step))]
 
 ghost use Rattle.std.specs.Prelude.{◌≡◌};
 ghost use Rattle.machine.specs.Machine.{machine_step};

@@ -41,7 +41,7 @@ fn read_row(name: &[u8], numbers: &[u32]) -> Line
 }
 
 // The step that a line is. Each field is cut off where the one before it ends, so that the line is gone through once.
-// The loop goes by fields and not by an index: std cuts no bytes into fields, and an iterator of our own would be no plainer.
+// The loop goes by fields and not by an index.
 pub fn read_line(line: &[u8]) -> Line
     ensures { result ≡ line_read (step_on line.now) }
 {

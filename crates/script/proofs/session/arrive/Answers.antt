@@ -23,7 +23,7 @@ use Rattle.syntax.specs.declared.Line.{Line}
 use Rattle.script_lines.specs.LineRun.{line_answered, message_words}
 use Rattle.script_lines.specs.LineRunLaws.{message_back, plan_answers, known_on}
 use Rattle.script.specs.Session.{script_of, log_at, step_at, logged_at, Stand, free_of, moved_to, Through, through, piece_run}
-use Rattle.script.specs.declared.session.Logged.{Logged}
+use Rattle.script_lines.specs.declared.run.Headed.{Headed}
 use Rattle.script.specs.SessionLaws.{rest_part, rest_back, through_end, Run, run_short, run_again, run_stopped, run_held, cut_on}
 use Rattle.script.proofs.session.arrive.Goals as goal
 use Rattle.script.proofs.session.arrive.Lts as lts
@@ -89,7 +89,7 @@ memory_is k =
     rest_back x.memory x.written n.new.log
     ∙ ap (λ m. take x.written x.memory ++ m) (n.ensures.memory ∙ (λ i. put_bytes (rest_part x.memory x.written i) 0 (log_at x.session.stage a (k.line-line.ensures i))))
 
-turn_fits : (k : Turned) (n : Logged) → k.log_line.result ≡ Some n → (before_turn k).written + n.written ≤ length (before_turn k).memory
+turn_fits : (k : Turned) (n : Headed) → k.log_line.result ≡ Some n → (before_turn k).written + n.written ≤ length (before_turn k).memory
 turn_fits k n is = run_short (bytes_in k) (before_turn k) _ _ _ _ _ (run_is k) n is k.loop-moved.invariant.0
 
 turn_size : (k : Turned) → (let x = before_turn k in length (take x.written x.memory ++ (k.log_line.new.log ++ drop (length x.memory - x.written) (drop x.written x.memory))) ≡ length x.memory)
