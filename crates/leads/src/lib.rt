@@ -31,9 +31,9 @@ fn led_to(kind: u8, object: u8, holder: u8, receiver: u8) -> u8
 }
 
 // Whom each task leads to, one after another. The tables are read whatever the kind of wait is, so that no branch hangs on it.
-fn each_leads<'a>(
-    wait: &'a [u8; TASKS],
-    object: &'a [u8; TASKS],
+fn each_leads(
+    wait: &[u8; TASKS],
+    object: &[u8; TASKS],
     mutexes: [u8; MUTEXES],
     queues: [u8; QUEUES],
 ) -> [u8; TASKS]
@@ -69,9 +69,9 @@ pub fn none_waits(wait: &[u8; TASKS]) -> bool
 
 // Whom each task leads to; `mutexes` says whom a wait for each mutex leads to: its owner, or only an heir; `queues` whom a wait to send to each
 // queue does. Where nobody leads to anybody, which is seen at once, tasks aren't looked at one by one.
-pub fn leads_of<'a>(
-    wait: &'a [u8; TASKS],
-    object: &'a [u8; TASKS],
+pub fn leads_of(
+    wait: &[u8; TASKS],
+    object: &[u8; TASKS],
     mutexes: [u8; MUTEXES],
     queues: [u8; QUEUES],
 ) -> [u8; TASKS]

@@ -29,12 +29,12 @@ pub fn lock(mut s: State, m: u32, time: u32) -> Plan
     }
     let f = leads::chain(s.tasks, s.mutexes.owner, s.queues.owner, owner, s.running);
     if f.ring {
-        return answers::ring(s, f.links as u32);
+        return answers::ring(s, u32::from(f.links));
     }
     effects::block(&mut s, ON_MUTEX, j, time);
     effects::settle(&mut s);
     effects::dispatch(&mut s);
-    answers::waits(s, f.links as u32)
+    answers::waits(s, u32::from(f.links))
 }
 
 // Ownership passes to the best waiter; where nobody waits, the mutex becomes free.
@@ -45,7 +45,7 @@ pub fn unlock(mut s: State, m: u32) -> Plan
     if let Err(no) = refusals::of_caller(s.started, s.running) {
         return answers::refused(s, no);
     }
-    if s.mutexes.n as u32 <= m {
+    if u32::from(s.mutexes.n) <= m {
         return answers::refused(s, Refusal::NoSuchObject);
     }
     let j = m as u8;

@@ -58,11 +58,11 @@ pub fn free(mut s: State) -> Plan
 fn of_task(s: State, task: u32, column: [u8; TASKS]) -> Plan
     ensures { result ≡ cond (leb s.tasks.n task) (answer_in s 6 0) (answer_in s 0 (key_of column task)) }
 {
-    if s.tasks.n as u32 <= task {
+    if u32::from(s.tasks.n) <= task {
         return answers::refused(s, Refusal::NoSuchObject);
     }
     let v = task_lists::key_of(column, task as u8);
-    answers::done(s, v as u32)
+    answers::done(s, u32::from(v))
 }
 
 #[inline(never)]
@@ -84,7 +84,7 @@ pub fn outcome(s: State, task: u32) -> Plan
 pub fn word(s: State, task: u32, n: u32, words: &[u32]) -> Plan
     ensures { result ≡ word_step s task n words.now }
 {
-    if s.tasks.n as u32 <= task {
+    if u32::from(s.tasks.n) <= task {
         return answers::refused(s, Refusal::NoSuchObject);
     }
     if EIGHT as u32 <= n {

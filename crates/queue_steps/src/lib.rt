@@ -33,12 +33,12 @@ fn wait_for_room(mut s: State, q: u8, time: u32) -> Plan
     let owner = queue_places::owner_at(s.queues, q);
     let f = leads::chain(s.tasks, s.mutexes.owner, s.queues.owner, owner, caller);
     if f.ring {
-        return answers::ring(s, f.links as u32);
+        return answers::ring(s, u32::from(f.links));
     }
     effects::block(&mut s, ON_SEND, q, time);
     settle_behind(&mut s, owner);
     effects::dispatch(&mut s);
-    answers::moving(s, WAITS, f.links as u32, Move::Hold { task: caller })
+    answers::moving(s, WAITS, u32::from(f.links), Move::Hold { task: caller })
 }
 
 // The message goes to the best waiting receiver; where nobody waits, to the tail.

@@ -35,7 +35,7 @@ pub fn of_timed(started: u8, running: u8, n: u8, object: u32, time: u32) -> Resu
     ensures there { refusal_code result ≡ 0 → object < 256 }
 {
     of_caller(started, running)?;
-    if n as u32 <= object {
+    if u32::from(n) <= object {
         return Err(Refusal::NoSuchObject);
     }
     if !is_time(time) {

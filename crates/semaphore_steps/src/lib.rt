@@ -36,7 +36,7 @@ pub fn post(mut s: State, k: u32) -> Plan
     if s.started == 0 {
         return answers::refused(s, Refusal::WrongPhase);
     }
-    if s.semaphores.n as u32 <= k {
+    if u32::from(s.semaphores.n) <= k {
         return answers::refused(s, Refusal::NoSuchObject);
     }
     let j = k as u8;
@@ -62,7 +62,7 @@ pub fn flush(mut s: State, k: u32) -> Plan
     if s.started == 0 {
         return answers::refused(s, Refusal::WrongPhase);
     }
-    if s.semaphores.n as u32 <= k {
+    if u32::from(s.semaphores.n) <= k {
         return answers::refused(s, Refusal::NoSuchObject);
     }
     let flags = waits::waiter_flags(s.tasks, ON_SEMAPHORE, k as u8);

@@ -16,7 +16,7 @@ pub fn task(mut s: State, priority: u32) -> Plan
     if s.started != 0 {
         return answers::refused(s, Refusal::WrongPhase);
     }
-    if LEVELS as u32 <= priority {
+    if u32::from(LEVELS) <= priority {
         return answers::refused(s, Refusal::OutOfRange);
     }
     let id = s.tasks.n;
@@ -25,7 +25,7 @@ pub fn task(mut s: State, priority: u32) -> Plan
     }
     s.tasks = objects::add_task(s.tasks, priority as u8);
     effects::enter(&mut s, id);
-    answers::done(s, id as u32)
+    answers::done(s, u32::from(id))
 }
 
 #[inline(never)]
@@ -35,7 +35,7 @@ pub fn mutex(mut s: State, kind: u32) -> Plan
     if s.started != 0 {
         return answers::refused(s, Refusal::WrongPhase);
     }
-    if KINDS as u32 <= kind {
+    if u32::from(KINDS) <= kind {
         return answers::refused(s, Refusal::OutOfRange);
     }
     let id = s.mutexes.n;
@@ -43,7 +43,7 @@ pub fn mutex(mut s: State, kind: u32) -> Plan
         return answers::refused(s, Refusal::NoRoom);
     }
     s.mutexes = objects::add_mutex(s.mutexes, kind as u8);
-    answers::done(s, id as u32)
+    answers::done(s, u32::from(id))
 }
 
 #[inline(never)]
@@ -61,7 +61,7 @@ pub fn sem(mut s: State, count: u32, maximum: u32) -> Plan
         return answers::refused(s, Refusal::NoRoom);
     }
     s.semaphores = objects::add_semaphore(s.semaphores, count, maximum);
-    answers::done(s, id as u32)
+    answers::done(s, u32::from(id))
 }
 
 // A queue of this owner, or of none, where there is room for it.
@@ -73,7 +73,7 @@ fn made(mut s: State, width: u32, depth: u32, owner: u8, space: usize) -> Plan
     }
     let id = s.queues.n;
     s.queues = objects::add_queue(s.queues, width as u8, depth as u8, owner);
-    answers::done(s, id as u32)
+    answers::done(s, u32::from(id))
 }
 
 // A queue that anybody may receive from; `space` is the length of the lent block, in words.
@@ -95,7 +95,7 @@ pub fn owned_queue(s: State, width: u32, depth: u32, owner: u32, space: usize) -
     if s.started != 0 {
         return answers::refused(s, Refusal::WrongPhase);
     }
-    if s.tasks.n as u32 <= owner {
+    if u32::from(s.tasks.n) <= owner {
         return answers::refused(s, Refusal::NoSuchObject);
     }
     let receiver = owner as u8;

@@ -32,10 +32,10 @@ fn place_fits(kind: u8, waits: u8, all: u8, n: u8, running: u8, i: u8) -> bool
 }
 
 // "each task in exactly one of running, ready, waiting", by tables of these counts.
-pub fn places<'a>(
-    kind: &'a [u8; TASKS],
-    waits: &'a [u8; TASKS],
-    all: &'a [u8; TASKS],
+pub fn places(
+    kind: &[u8; TASKS],
+    waits: &[u8; TASKS],
+    all: &[u8; TASKS],
     n: u8,
     running: u8,
 ) -> bool
@@ -50,7 +50,7 @@ pub fn places<'a>(
 }
 
 // The chain of each of a table's owners ends.
-fn each_ends<'a>(next: &'a [u8; TASKS], owner: &'a [u8; MUTEXES]) -> bool
+fn each_ends(next: &[u8; TASKS], owner: &[u8; MUTEXES]) -> bool
     ensures { result ≡ allb max_mutexes (λ j. endsb task_places (next_in next.now) (task_at (get_or owner.now j 0))) }
 {
     for j in 0..MUTEXES {
@@ -62,7 +62,7 @@ fn each_ends<'a>(next: &'a [u8; TASKS], owner: &'a [u8; MUTEXES]) -> bool
 }
 
 // The same. Where nothing is owned, which is seen at once, there is no chain to walk along.
-fn table_ends<'a>(next: &'a [u8; TASKS], owner: &'a [u8; MUTEXES]) -> bool
+fn table_ends(next: &[u8; TASKS], owner: &[u8; MUTEXES]) -> bool
     ensures { result ≡ allb max_mutexes (λ j. endsb task_places (next_in next.now) (task_at (get_or owner.now j 0))) }
 {
     sound_objects::all_free(owner) || each_ends(next, owner)
@@ -70,18 +70,14 @@ fn table_ends<'a>(next: &'a [u8; TASKS], owner: &'a [u8; MUTEXES]) -> bool
 
 // "no ring of waits": the chain of every owner ends, of mutexes and of queues, whose tables are equally long. Who waits for nothing that is owned
 // closes no ring.
-pub fn owners_end<'a>(
-    next: &'a [u8; TASKS],
-    mutexes: &'a [u8; MUTEXES],
-    queues: &'a [u8; QUEUES],
-) -> bool
+pub fn owners_end(next: &[u8; TASKS], mutexes: &[u8; MUTEXES], queues: &[u8; QUEUES]) -> bool
     ensures { result ≡ allb max_mutexes (λ j. endsb task_places (next_in next.now) (task_at (get_or mutexes.now j 0))) and allb max_queues (λ j. endsb task_places (next_in next.now) (task_at (get_or queues.now j 0))) }
 {
     table_ends(next, mutexes) && table_ends(next, queues)
 }
 
 // "stored levels as defined": do two tables hold the same?
-pub fn same<'a>(level: &'a [u8; TASKS], lent: &'a [u8; TASKS]) -> bool
+pub fn same(level: &[u8; TASKS], lent: &[u8; TASKS]) -> bool
     ensures { result ≡ allb task_places (same_at level.now lent.now) }
 {
     let mut fits = true;

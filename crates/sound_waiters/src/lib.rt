@@ -43,12 +43,7 @@ fn wait_fits(x: Queues, words: &[u32], i: u8, kind: u8, q: u8) -> bool
 }
 
 // All waits at queues, task by task.
-fn each_fits<'a>(
-    wait: &'a [u8; TASKS],
-    object: &'a [u8; TASKS],
-    x: Queues,
-    words: &'a [u32],
-) -> bool
+fn each_fits(wait: &[u8; TASKS], object: &[u8; TASKS], x: Queues, words: &[u32]) -> bool
     ensures { result ≡ queue_waits_in wait.now object.now x words.now }
 {
     for i in 0..TASK_PLACES {
@@ -79,7 +74,7 @@ fn none_waits(wait: &[u8; TASKS]) -> bool
 }
 
 // Do all who wait at queues wait for what isn't available to them? Where nobody does, which is seen at once, tasks aren't looked at one by one.
-pub fn fit<'a>(wait: &'a [u8; TASKS], object: &'a [u8; TASKS], x: Queues, words: &'a [u32]) -> bool
+pub fn fit(wait: &[u8; TASKS], object: &[u8; TASKS], x: Queues, words: &[u32]) -> bool
     ensures { result ≡ queue_waits_in wait.now object.now x words.now }
 {
     none_waits(wait) || each_fits(wait, object, x, words)
