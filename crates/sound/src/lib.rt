@@ -1,5 +1,5 @@
 // The test of a record, phrase by phrase.
-#![tactic(auto, using(lists::specs::OperatorLaws::operators), unfolding(checks::specs::Checks::sizes_in, checks::specs::Checks::others_unused, checks::specs::Checks::tasks_in, checks::specs::Checks::objects_in, checks::specs::Checks::queues_in, checks::specs::Checks::lists_in, checks::specs::Checks::waits_in, checks::specs::Checks::levels_in, checks::specs::Checks::tables_in))]
+#![tactic(auto, using(lists::specs::OperatorLaws::operators), unfolding(checks::specs::Checks::sizes_in))]
 
 ghost use Rattle.std.specs.Prelude.{◌≡◌, List, ℕ, length};
 ghost use Rattle.checks.specs.Checks.{sizes_in, others_unused, tasks_in, objects_in, queues_in, lists_in, tables_in, places_in, waits_in, levels_in};
@@ -31,11 +31,24 @@ fn sizes_in(s: State) -> bool
 fn unused_in(t: Tasks, used: &[u8; TASKS]) -> bool
     ensures { result ≡ others_unused t used.now }
 {
-    sound_tables::unused(&t.level, used)
-        && sound_tables::unused(&t.outcome, used)
-        && sound_tables::unused(&t.wait, used)
-        && sound_tables::unused(&t.object, used)
-        && sound_tables::unused(&t.timed, used)
+    let level = t.level;
+    if !sound_tables::unused(&level, used) {
+        return false;
+    }
+    let outcome = t.outcome;
+    if !sound_tables::unused(&outcome, used) {
+        return false;
+    }
+    let wait = t.wait;
+    if !sound_tables::unused(&wait, used) {
+        return false;
+    }
+    let object = t.object;
+    if !sound_tables::unused(&object, used) {
+        return false;
+    }
+    let timed = t.timed;
+    sound_tables::unused(&timed, used)
 }
 
 // Priorities, waits, their times and outcomes, and the unused places of all columns.
@@ -43,35 +56,61 @@ fn tasks_in(t: Tasks, clock: u32) -> bool
     ensures { result ≡ tasks_in t clock }
 {
     let used = task_list_checks::used_places(t.n);
-    sound_tables::priorities(&t.priority, &used)
-        && unused_in(t, &used)
-        && sound_tables::waits(&t.wait, &t.object, &t.timed)
-        && sound_tables::times(&t.wait, &t.timed, &t.due, clock)
-        && sound_tables::outcomes(&t.wait, &t.outcome)
+    let priority = t.priority;
+    if !sound_tables::priorities(&priority, &used) {
+        return false;
+    }
+    if !unused_in(t, &used) {
+        return false;
+    }
+    let wait = t.wait;
+    let object = t.object;
+    let timed = t.timed;
+    if !sound_tables::waits(&wait, &object, &timed) {
+        return false;
+    }
+    let due = t.due;
+    if !sound_tables::times(&wait, &timed, &due, clock) {
+        return false;
+    }
+    let outcome = t.outcome;
+    sound_tables::outcomes(&wait, &outcome)
 }
 
 // Kinds, owners, counts.
 fn objects_in(m: Mutexes, c: Semaphores, tasks: u8) -> bool
     ensures { result ≡ objects_in m c tasks }
 {
-    sound_objects::mutexes(m, tasks) && sound_objects::semaphores(&c.count, &c.maximum, c.n)
+    if !sound_objects::mutexes(m, tasks) {
+        return false;
+    }
+    let count = c.count;
+    let maximum = c.maximum;
+    sound_objects::semaphores(&count, &maximum, c.n)
 }
 
 // Widths, depths, owners and counts, and "15 for a queue not so placed in the block".
 fn queues_in(x: Queues, tasks: u8, space: usize) -> bool
     ensures { result ≡ queues_in x tasks space }
 {
-    sound_queues::queues(x, tasks) && sound_queues::placed(x, space)
+    if !sound_queues::queues(x, tasks) {
+        return false;
+    }
+    sound_queues::placed(x, space)
 }
 
 // Both lists hold ids of tasks.
 fn lists_in(ready: TaskList, waiting: TaskList, tasks: u8) -> bool
     ensures { result ≡ lists_in ready waiting tasks }
 {
+    let ready_ids = ready.ids;
     let ready_used = task_list_checks::used_places(ready.n);
+    if !task_list_checks::ids_fit(&ready_ids, &ready_used, tasks) {
+        return false;
+    }
+    let waiting_ids = waiting.ids;
     let waiting_used = task_list_checks::used_places(waiting.n);
-    task_list_checks::ids_fit(&ready.ids, &ready_used, tasks)
-        && task_list_checks::ids_fit(&waiting.ids, &waiting_used, tasks)
+    task_list_checks::ids_fit(&waiting_ids, &waiting_used, tasks)
 }
 
 // Each task in one place.
@@ -84,32 +123,38 @@ fn places_in(wait: &[u8; TASKS], ready: TaskList, waiting: TaskList, n: u8, runn
 }
 
 // Waits are for what isn't available, and there is "no ring of waits". Where nobody waits for an object, which is seen at once, tables aren't looked at.
-fn waits_in(
-    wait: &[u8; TASKS],
-    object: &[u8; TASKS],
+fn waits_in<'a>(
+    wait: &'a [u8; TASKS],
+    object: &'a [u8; TASKS],
     m: Mutexes,
     c: Semaphores,
     x: Queues,
-    words: &[u32],
+    words: &'a [u32],
 ) -> bool
     ensures { result ≡ waits_in wait.now object.now m c x words.now }
 {
     if sound_tables::none_for_objects(wait) {
         return true;
     }
-    let next = leads::leads_of(wait, object, m.owner, x.owner);
+    let owner = m.owner;
+    let queues = x.owner;
+    let next = leads::leads_of(wait, object, owner, queues);
     let empty = sound_objects::at_objects(object, sound_objects::empties(c));
-    sound_objects::blocked(wait, object, &next, &empty, c.n)
-        && sound_waiters::fit(wait, object, x, words)
-        && sound_places::owners_end(&next, &m.owner, &x.owner)
+    if !sound_objects::blocked(wait, object, &next, &empty, c.n) {
+        return false;
+    }
+    if !sound_waiters::fit(wait, object, x, words) {
+        return false;
+    }
+    sound_places::owners_end(&next, &owner, &queues)
 }
 
 // "stored levels as defined": own priorities, where nobody waits for a mutex or to send, since nothing is lent then.
-fn levels_in(
+fn levels_in<'a>(
     own: [u8; TASKS],
-    level: &[u8; TASKS],
-    wait: &[u8; TASKS],
-    object: &[u8; TASKS],
+    level: &'a [u8; TASKS],
+    wait: &'a [u8; TASKS],
+    object: &'a [u8; TASKS],
     m: Mutexes,
     x: Queues,
 ) -> bool
@@ -118,20 +163,33 @@ fn levels_in(
     if leads::none_waits(wait) {
         return sound_places::same(level, &own);
     }
-    let to = leads::leads_of(wait, object, leads::heirs_of(m), x.owner);
-    sound_places::same(level, &walks::lent_levels(own, &to, level))
+    let heirs = leads::heirs_of(m);
+    let queues = x.owner;
+    let to = leads::leads_of(wait, object, heirs, queues);
+    let lent = walks::lent_levels(own, &to, level);
+    sound_places::same(level, &lent)
 }
 
 // The tables and lists, each by itself. The sizes come first: what is said of the others counts on them.
 fn tables_in(s: State, words: &[u32], space: usize) -> bool
     ensures { result ≡ tables_in s words.now space }
 {
-    sizes_in(s)
-        && tasks_in(s.tasks, s.clock)
-        && objects_in(s.mutexes, s.semaphores, s.tasks.n)
-        && queues_in(s.queues, s.tasks.n, space)
-        && sound_words::words_tidy(words, s.tasks.n)
-        && lists_in(s.ready, s.waiting, s.tasks.n)
+    if !sizes_in(s) {
+        return false;
+    }
+    if !tasks_in(s.tasks, s.clock) {
+        return false;
+    }
+    if !objects_in(s.mutexes, s.semaphores, s.tasks.n) {
+        return false;
+    }
+    if !queues_in(s.queues, s.tasks.n, space) {
+        return false;
+    }
+    if !sound_words::words_tidy(words, s.tasks.n) {
+        return false;
+    }
+    lists_in(s.ready, s.waiting, s.tasks.n)
 }
 
 // Is the record sound, with the words that tasks hold and a lent block of `space` words? The tables first, then what joins them. The clause `types`

@@ -1,5 +1,5 @@
 // Does the phase, set-up or started, have what it owes?
-#![tactic(auto, using(lists::specs::OperatorLaws::operators, checks::specs::TestedLaws::unused_same), unfolding(checks::specs::Checks::started_in, checks::specs::Checks::at_rest, checks::specs::Checks::set_up_in))]
+#![tactic(auto, using(lists::specs::OperatorLaws::operators), unfolding(checks::specs::Checks::started_in, checks::specs::Checks::at_rest))]
 
 ghost use Rattle.std.specs.Prelude.{◌≡◌};
 ghost use Rattle.checks.specs.Checks.{started_in, at_rest, set_up_in};
@@ -12,7 +12,7 @@ pub fn started_in(levels: [u8; TASKS], ready: TaskList, running: u8, hold: u8) -
     ensures { result ≡ started_in levels ready running hold }
 {
     if running == NONE {
-        return ready.n == 0 && hold == 0;
+        return (ready.n == 0) & (hold == 0);
     }
     hold != 0
         || ready.n == 0
@@ -23,7 +23,7 @@ pub fn started_in(levels: [u8; TASKS], ready: TaskList, running: u8, hold: u8) -
 pub fn at_rest(clock: u32, hold: u8, running: u8, waiting: u8) -> bool
     ensures { result ≡ at_rest clock hold running waiting }
 {
-    clock == 0 && hold == 0 && running == NONE && waiting == 0
+    (clock == 0) & (hold == 0) & (running == NONE) & (waiting == 0)
 }
 
 // In set-up: no mutex owned, outcomes 0, as those of unused places are, queues empty, words 0, and equal levels by id.
@@ -37,10 +37,18 @@ pub fn set_up_in(
 ) -> bool
     ensures { result ≡ set_up_in owners outcomes ready levels used words.now }
 {
+    if !sound_objects::all_free(&owners) {
+        return false;
+    }
     let none = task_list_checks::used_places(0);
-    sound_objects::all_free(&owners)
-        && sound_tables::unused(&outcomes, &none)
-        && sound_queues::all_empty(&used)
-        && sound_words::words_zero(words)
-        && task_list_checks::ties_by_id(ready, levels)
+    if !sound_tables::unused(&outcomes, &none) {
+        return false;
+    }
+    if !sound_queues::all_empty(&used) {
+        return false;
+    }
+    if !sound_words::words_zero(words) {
+        return false;
+    }
+    task_list_checks::ties_by_id(ready, levels)
 }

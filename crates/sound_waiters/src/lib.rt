@@ -20,7 +20,13 @@ fn at(column: [u8; QUEUES], q: u8) -> u8
 fn sender_fits(x: Queues, words: &[u32], i: u8, q: u8) -> bool
     ensures { result ≡ ltb q x.n and eqb (get_or x.used q 0) (get_or x.depth q 0) and past_at words.now i (get_or x.width q 0) }
 {
-    q < x.n && at(x.used, q) == at(x.depth, q) && sound_words::past(words, i, at(x.width, q))
+    if x.n <= q {
+        return false;
+    }
+    if at(x.used, q) != at(x.depth, q) {
+        return false;
+    }
+    sound_words::past(words, i, at(x.width, q))
 }
 
 // Task `i` waits to receive from queue `q`: it is there and empty, and has no owner or is the task's own.
@@ -28,7 +34,7 @@ fn receiver_fits(x: Queues, i: u8, q: u8) -> bool
     ensures { result ≡ ltb q x.n and eqb (get_or x.used q 0) 0 and (eqb (get_or x.owner q 0) no_id or eqb (get_or x.owner q 0) i) }
 {
     let owner = at(x.owner, q);
-    q < x.n && at(x.used, q) == 0 && (owner == NONE || owner == i)
+    (q < x.n) & (at(x.used, q) == 0) & ((owner == NONE) | (owner == i))
 }
 
 // Whatever task `i` waits for, if it is a queue it isn't available to it.
