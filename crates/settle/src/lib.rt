@@ -44,9 +44,12 @@ fn rest(q: TaskList) -> TaskList
     requires { 0 < q.n }
     ensures { result ≡ rest_of q }
 {
+    let from = q.ids;
     let left = task_lists::len(q) - 1;
     let mut ids = [NONE; TASKS];
-    ids[..left].copy_from_slice(&q.ids[1..=left]);
+    for i in 0..left {
+        ids[i] = from[i + 1];
+    }
     TaskList { ids, n: left as u8 }
 }
 
