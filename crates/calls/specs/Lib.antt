@@ -2,4 +2,3 @@
 pub mod Call
 pub mod CallLaws
 pub mod Packed
-pub mod PlanLaws

@@ -7,6 +7,7 @@ ghost use Rattle.machine.specs.Planned.{carried};
 ghost use Rattle.kernel.specs.Planning.{Known};
 ghost use Rattle.calls.specs.Call.{request_of, call_of};
 
+use kernel::refused;
 use record::{Plan, Request, State};
 
 pub mod answers;
@@ -61,8 +62,8 @@ pub fn call(s: State, x: Option<Request>, count: usize, space: usize, words: &[u
     tested_call(s, sound, x, count, space, words)
 }
 
-// The same on a record that was tested before: `sound` is what the test said.
-#[tactic(auto, using(crate::specs::PlanLaws::plan_calls))]
+// The same on a record that was tested before: `sound` is what the test said. It is `kernel::plan` for what is asked by code, but not by calling that: tried, it
+// is one more copy of the record, 1.03 times the instructions of an idle step, even where it is inlined.
 pub fn tested_call(
     s: State,
     sound: bool,
@@ -73,5 +74,16 @@ pub fn tested_call(
 ) -> Plan
     ensures { (m block : List ℕ) → length m ≡ count → length block ≡ space → Known sound (whole s words.now block) → carried (whole s words.now block) m result ≡ call_of (whole s words.now block) x m }
 {
-    kernel::plan(s, sound, x, count, space, words)
+    let Some(request) = x else {
+        let no_step = refused::malformed(s, sound);
+        return kernel::stay(s, no_step);
+    };
+    if !kernel::is_formed(request, count) {
+        let no_message = refused::malformed(s, sound);
+        return kernel::stay(s, no_message);
+    }
+    if !sound {
+        return kernel::stay(s, refused::unsound());
+    }
+    steps::perform(s, request, count, space, words)
 }

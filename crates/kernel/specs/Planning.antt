@@ -1,5 +1,5 @@
 -- What is planned for a request on a record that was tested before.
-use Rattle.std.specs.Prelude.{◌≡◌, List, Bool, true, cond, Option as RustOption, Some, None, ℕ, ltb, leb, length}
+use Rattle.std.specs.Prelude.{◌≡◌, List, Bool, true, cond, ℕ, ltb, leb, length}
 use Rattle.std.proofs.Math.Option.{none}
 use Rattle.lists.specs.Test.{◌and◌}
 use Rattle.rules.specs.Sizes.{held_words}
@@ -51,11 +51,6 @@ planned sound k x count space words =
     cond (formed_by x count)
     (cond sound (machine_step k x count space words) (unmoved k (answer_for 15 0 none)))
     (unmoved k (answer_for 14 0 (standing_by sound k)))
-
--- the same for what may be no step at all: 14
-unfoldable pub plan_read : Bool → State → List ℕ → ℕ → ℕ → RustOption Request → Plan
-plan_read sound k words space count None = unmoved k (answer_for 14 0 (standing_by sound k))
-plan_read sound k words space count (Some x) = planned sound k x count space words
 
 -- what a plan hands back, once its words are moved
 abbrev pub given : Plan → Out

@@ -1,12 +1,12 @@
 // The kernel: the step that takes any record and any request, and the refusals that no step gives.
-#![tactic(auto, unfolding(record::specs::StepRecord::answer_for, record::specs::Refused::refusal_number, task_lists::specs::TaskList::id_of, crate::specs::Planning::formed_by, crate::specs::Planning::planned, crate::specs::Planning::plan_read))]
+#![tactic(auto, unfolding(record::specs::StepRecord::answer_for, record::specs::Refused::refusal_number, task_lists::specs::TaskList::id_of, crate::specs::Planning::formed_by, crate::specs::Planning::planned))]
 
 pub mod refused;
 
 ghost use Rattle.std.specs.Prelude.{◌≡◌};
 ghost use Rattle.record.specs.Whole.{whole};
 ghost use Rattle.record.specs.StepRecord.{step_of, out_of};
-ghost use Rattle.kernel.specs.Planning.{formed_by, unmoved, plan_read};
+ghost use Rattle.kernel.specs.Planning.{formed_by, unmoved, planned};
 
 use moves::Move;
 use record::{Answer, EIGHT, Out, Plan, Request, State};
@@ -32,32 +32,19 @@ pub fn stay(s: State, a: Answer) -> Plan
     }
 }
 
-// What was asked for, on a record that was tested before, `sound` being what the test said: 14 where it is no step, 15, or its step, before any word is
-// moved. The message beside it has `count` words, the lent block `space`. (Inlined, since each function that the record goes through by value is a
-// copy of it.)
-#[inline(always)]
-pub fn plan(
-    s: State,
-    sound: bool,
-    asked: Option<Request>,
-    count: usize,
-    space: usize,
-    words: &[u32],
-) -> Plan
-    ensures { result ≡ plan_read sound s words.now space count asked }
+// A request on a record that was tested before, `sound` being what the test said: 14, 15, or its step, before any word is moved. The message beside it
+// has `count` words, the lent block `space`.
+fn plan(s: State, sound: bool, x: Request, count: usize, space: usize, words: &[u32]) -> Plan
+    ensures { result ≡ planned sound s x count space words.now }
 {
-    let Some(request) = asked else {
-        let no_step = refused::malformed(s, sound);
-        return stay(s, no_step);
-    };
-    if !is_formed(request, count) {
+    if !is_formed(x, count) {
         let no_message = refused::malformed(s, sound);
         return stay(s, no_message);
     }
-    if !sound {
-        return stay(s, refused::unsound());
+    if sound {
+        return steps::perform(s, x, count, space, words);
     }
-    steps::perform(s, request, count, space, words)
+    stay(s, refused::unsound())
 }
 
 // The step: for any record with its words and block, any request and any message, what the rules answer; 15 with no task to run where the record isn't
@@ -68,7 +55,7 @@ pub fn step(s: State, x: Request, message: &[u32], words: &mut [u32], block: &mu
     ensures memory { block.new ≡ (step_of (whole s words.old block.old) x message.now).whole.block }
 {
     let sound = sound::is_sound(s, words, block.len());
-    let p = plan(s, sound, Some(x), message.len(), block.len(), words);
+    let p = plan(s, sound, x, message.len(), block.len(), words);
     moves::make(p.moves, words, message, block);
     Out {
         state: p.state,

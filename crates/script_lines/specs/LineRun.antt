@@ -8,7 +8,7 @@ use Rattle.record.specs.StepRecord.{step_for, answer_for, number_of, value_of, r
 use Rattle.record.specs.declared.State.{State}
 use Rattle.record.specs.declared.Answer.{Answer}
 use Rattle.record.specs.declared.Plan.{Plan}
-use Rattle.kernel.specs.Planning.{plan_read}
+use Rattle.kernel.specs.Planning.{unmoved, planned}
 use Rattle.words.specs.Form.{same_bytes, step_on}
 use Rattle.log_lines.specs.LogLine.{line_bytes, log_bytes, bad_bytes}
 use Rattle.words.specs.Form.{header_bytes}
@@ -32,7 +32,11 @@ step_read (Some x) m = some (step_for x m)
 abbrev pub message_words : Message → List ℕ
 message_words m = take m.n m.words
 
--- what is planned for what was read of a line, `sound` being what the test said of the record
+-- what is planned for what was read of a line, `sound` being what the test said of the record, and `count` the words of the message
+unfoldable pub plan_read : Bool → State → List ℕ → ℕ → ℕ → RustOption Request → Plan
+plan_read sound k words space count None = unmoved k (answer_for 14 0 (standing_by sound k))
+plan_read sound k words space count (Some x) = planned sound k x count space words
+
 abbrev pub line_planned : Bool → State → List ℕ → ℕ → Line → Plan
 line_planned sound k words space l = plan_read sound k words space l.message.n l.reading
 

@@ -27,7 +27,7 @@ use Rattle.record.specs.DemandRecord.{read_out, in_memory, call_record}
 use Rattle.record.specs.declared.State.{State}
 use Rattle.record.specs.declared.Plan.{Plan}
 use Rattle.machine.specs.Planned.{carried}
-use Rattle.kernel.specs.Planning.{unmoved, Known, plan_read}
+use Rattle.kernel.specs.Planning.{unmoved, Known}
 use Rattle.kernel.specs.PlanningLaws.{planned_gives}
 use Rattle.words.specs.Form.{same_bytes, step_on}
 use Rattle.log_lines.specs.LogLine.{line_bytes, log_bytes, bad_bytes}
@@ -37,7 +37,7 @@ use Rattle.words.specs.SameLaws.{same_equal}
 use Rattle.record.specs.declared.Request.{Request}
 use Rattle.syntax.specs.Line.{line_read}
 use Rattle.syntax.specs.declared.Line.{Line}
-use Rattle.script_lines.specs.LineRun.{running, over, line_answered, step_read, message_words, line_planned, line_for, Came, came_to, reported, ran_line, memory_line, head_log, head_stage, headed}
+use Rattle.script_lines.specs.LineRun.{running, over, line_answered, step_read, message_words, plan_read, line_planned, line_for, Came, came_to, reported, ran_line, memory_line, head_log, head_stage, headed}
 
 -- the line that reports an answer is the rules' log line of it
 pub line_ruled : (o : After) → line_for o.answer ≡ log_line (read_out o)

@@ -38,11 +38,25 @@ pub struct Headed {
 }
 
 // What was read of a line, answered on a record that was tested before, `sound` being what the test said: 14, 15, or its step, before any word is
-// moved. The lent block has `space` words.
+// moved. The lent block has `space` words. (As in `calls::tested_call`, the record goes through no function more than it must.)
+#[tactic(auto, unfolding(crate::specs::LineRun::plan_read, kernel::specs::Planning::planned))]
 pub fn answer(s: State, sound: bool, line: Line, space: usize, words: &[u32]) -> Plan
     ensures { result ≡ line_planned sound s words.now space line }
 {
-    kernel::plan(s, sound, line.reading, line.message.n, space, words)
+    let reading = line.reading;
+    let count = line.message.n;
+    let Some(request) = reading else {
+        let no_step = refused::malformed(s, sound);
+        return kernel::stay(s, no_step);
+    };
+    if !kernel::is_formed(request, count) {
+        let no_message = refused::malformed(s, sound);
+        return kernel::stay(s, no_message);
+    }
+    if !sound {
+        return kernel::stay(s, refused::unsound());
+    }
+    steps::perform(s, request, count, space, words)
 }
 
 // What a step moves, with the message that was read beside it. This comes after its log line: where that has no room, no word is moved.

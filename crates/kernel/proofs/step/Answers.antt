@@ -3,12 +3,12 @@ use mathlib.Core.Path.{refl, ap, ◌∙◌}
 use Rattle.record.specs.Whole.{whole}
 use Rattle.record.specs.StepRecord.{After, out_of}
 use Rattle.machine.specs.Planned.{carried}
-use Rattle.kernel.specs.Planning.{Known, plan_read}
+use Rattle.kernel.specs.Planning.{Known}
 use Rattle.kernel.specs.PlanningLaws.{planned_gives}
 use Rattle.kernel.proofs.step.Goals as goal
 
 pub returns : goal.returns
-unfolding carried plan_read
+unfolding carried
 returns c =
     let a = c.args in
     let test = c.is_sound-sound in
