@@ -1,5 +1,5 @@
 // After each accepted step: levels, the ready order, and who runs. Parts of the record come in and go out, never the whole of it.
-#![tactic(auto)]
+#![tactic(auto, unfolding(machine::specs::Machine::resettled, machine::specs::Machine::moved_of, machine::specs::Machine::order_of, machine::specs::Machine::displaced))]
 
 mod tables;
 
