@@ -85,7 +85,7 @@ pub fn ended_at(text: &[u8], at: usize) -> bool
 }
 
 // The line that begins at `at`, as a part of the text.
-pub fn line_at<'a>(text: &'a [u8], at: usize) -> &'a [u8]
+pub fn line_at(text: &[u8], at: usize) -> &[u8]
     ensures { result.now ≡ line_from text.now at }
 {
     line(Reader { text, at })
@@ -100,7 +100,7 @@ pub fn next_at(text: &[u8], at: usize) -> usize
 
 // The text's first line, empty where it has none.
 #[tactic(auto, using(crate::specs::PlaceLaws::nth_first))]
-pub fn first_line<'a>(text: &'a [u8]) -> &'a [u8]
+pub fn first_line(text: &[u8]) -> &[u8]
     ensures { result.now ≡ get_or (lines text.now) 0 [] }
 {
     line(over(text))

@@ -13,7 +13,7 @@ pub fn count_lines(text: &[u8]) -> usize
 }
 
 // The n-th line, from 0 on, as a part of the text. From `count_lines` on there is none, and the part is empty.
-pub fn nth_line<'a>(text: &'a [u8], n: usize) -> &'a [u8]
+pub fn nth_line(text: &[u8], n: usize) -> &[u8]
     ensures { result.now ≡ get_or (lines text.now) n [] }
 {
     over(text).nth(n).unwrap_or(&[])

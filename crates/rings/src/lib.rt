@@ -32,7 +32,7 @@ fn ahead(j: u8) -> usize
 }
 
 // The first word of queue j where the queues fill the block in the order of their ids.
-pub fn start<'a>(width: &'a [u8; QUEUES], depth: &'a [u8; QUEUES], j: u8) -> u32
+pub fn start(width: &[u8; QUEUES], depth: &[u8; QUEUES], j: u8) -> u32
     ensures { result ≡ start_in width.now depth.now j }
 {
     let n = ahead(j);

@@ -123,13 +123,13 @@ fn places_in(wait: &[u8; TASKS], ready: TaskList, waiting: TaskList, n: u8, runn
 }
 
 // Waits are for what isn't available, and there is "no ring of waits". Where nobody waits for an object, which is seen at once, tables aren't looked at.
-fn waits_in<'a>(
-    wait: &'a [u8; TASKS],
-    object: &'a [u8; TASKS],
+fn waits_in(
+    wait: &[u8; TASKS],
+    object: &[u8; TASKS],
     m: Mutexes,
     c: Semaphores,
     x: Queues,
-    words: &'a [u32],
+    words: &[u32],
 ) -> bool
     ensures { result ≡ waits_in wait.now object.now m c x words.now }
 {
@@ -150,11 +150,11 @@ fn waits_in<'a>(
 }
 
 // "stored levels as defined": own priorities, where nobody waits for a mutex or to send, since nothing is lent then.
-fn levels_in<'a>(
+fn levels_in(
     own: [u8; TASKS],
-    level: &'a [u8; TASKS],
-    wait: &'a [u8; TASKS],
-    object: &'a [u8; TASKS],
+    level: &[u8; TASKS],
+    wait: &[u8; TASKS],
+    object: &[u8; TASKS],
     m: Mutexes,
     x: Queues,
 ) -> bool

@@ -42,7 +42,7 @@ fn semaphore_fits(used: bool, count: u32, maximum: u32) -> bool
 }
 
 // "counts at most their maximum, maximum at least 1"
-pub fn semaphores<'a>(count: &'a [u32; SEMAPHORES], maximum: &'a [u32; SEMAPHORES], n: u8) -> bool
+pub fn semaphores(count: &[u32; SEMAPHORES], maximum: &[u32; SEMAPHORES], n: u8) -> bool
     ensures { result ≡ allb max_semaphores (sem_fits_at count.now maximum.now n) }
 {
     let mut fits = true;
@@ -86,11 +86,11 @@ fn is_blocked(kind: u8, object: u8, semaphores: u8, next: u8, empty: u8) -> bool
 }
 
 // "each waiter waits for an existing object that isn't available to it (mutex owned, semaphore at 0) or for time"
-pub fn blocked<'a>(
-    wait: &'a [u8; TASKS],
-    object: &'a [u8; TASKS],
-    next: &'a [u8; TASKS],
-    empty: &'a [u8; TASKS],
+pub fn blocked(
+    wait: &[u8; TASKS],
+    object: &[u8; TASKS],
+    next: &[u8; TASKS],
+    empty: &[u8; TASKS],
     semaphores: u8,
 ) -> bool
     ensures { result ≡ allb task_places (blocked_fits_at wait.now object.now next.now empty.now semaphores) }

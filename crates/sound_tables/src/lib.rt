@@ -15,7 +15,7 @@ use record::{
 };
 
 // "unused table places as in the fresh state": a place whose flag in `used` isn't 1 holds 0.
-pub fn unused<'a>(column: &'a [u8; TASKS], used: &'a [u8; TASKS]) -> bool
+pub fn unused(column: &[u8; TASKS], used: &[u8; TASKS]) -> bool
     ensures { result ≡ allb task_places (unused_by column.now used.now) }
 {
     let mut fits = true;
@@ -26,7 +26,7 @@ pub fn unused<'a>(column: &'a [u8; TASKS], used: &'a [u8; TASKS]) -> bool
 }
 
 // Priorities are in range, and unused places hold 0. Both at once: the range by itself is compiled to a test of one place after another.
-pub fn priorities<'a>(priority: &'a [u8; TASKS], used: &'a [u8; TASKS]) -> bool
+pub fn priorities(priority: &[u8; TASKS], used: &[u8; TASKS]) -> bool
     ensures { result ≡ allb task_places (priority_fits_by priority.now used.now) }
 {
     let mut fits = true;
@@ -57,7 +57,7 @@ fn wait_fits(kind: u8, object: u8, timed: u8) -> bool
 }
 
 // Waits are of a kind that there is, and hold what belongs to that kind.
-pub fn waits<'a>(wait: &'a [u8; TASKS], object: &'a [u8; TASKS], timed: &'a [u8; TASKS]) -> bool
+pub fn waits(wait: &[u8; TASKS], object: &[u8; TASKS], timed: &[u8; TASKS]) -> bool
     ensures { result ≡ allb task_places (wait_fits_at wait.now object.now timed.now) }
 {
     let mut fits = true;
@@ -90,12 +90,7 @@ fn time_fits(kind: u8, timed: u8, due: u32, clock: u32) -> bool
 }
 
 // "each timed wait has 1 to 2147483647 ticks left and each sleep is timed"
-pub fn times<'a>(
-    wait: &'a [u8; TASKS],
-    timed: &'a [u8; TASKS],
-    due: &'a [u32; TASKS],
-    clock: u32,
-) -> bool
+pub fn times(wait: &[u8; TASKS], timed: &[u8; TASKS], due: &[u32; TASKS], clock: u32) -> bool
     ensures { result ≡ allb task_places (time_fits_at wait.now timed.now due.now clock) }
 {
     let mut fits = true;
@@ -115,7 +110,7 @@ fn outcome_fits(kind: u8, outcome: u8) -> bool
 }
 
 // "outcomes 0, 1, 20 or 21, and 1 exactly for waiting tasks"
-pub fn outcomes<'a>(wait: &'a [u8; TASKS], outcome: &'a [u8; TASKS]) -> bool
+pub fn outcomes(wait: &[u8; TASKS], outcome: &[u8; TASKS]) -> bool
     ensures { result ≡ allb task_places (outcome_fits_at wait.now outcome.now) }
 {
     let mut fits = true;

@@ -68,7 +68,7 @@ pub fn used_places(n: u8) -> [u8; PLACES]
 }
 
 // Does each used place of a list hold the id of one of `tasks`, and each unused one NONE?
-pub fn ids_fit<'a>(ids: &'a [u8; PLACES], used: &'a [u8; PLACES], tasks: u8) -> bool
+pub fn ids_fit(ids: &[u8; PLACES], used: &[u8; PLACES], tasks: u8) -> bool
     ensures { result ≡ allb task_places (id_fits_by ids.now used.now tasks) }
 {
     let mut fits = true;

@@ -41,10 +41,10 @@ fn outcome_after(flag: u8, kind: u8, slept: u8, other: u8, outcome: u8) -> u8
 }
 
 // The outcomes after the flagged waits ended, sleeps with one and other waits with another.
-pub fn outcomes<'a>(
+pub fn outcomes(
     column: [u8; TASKS],
-    kind: &'a [u8; TASKS],
-    flags: &'a [u8; TASKS],
+    kind: &[u8; TASKS],
+    flags: &[u8; TASKS],
     slept: u8,
     other: u8,
 ) -> [u8; TASKS]

@@ -61,7 +61,7 @@ fn lend(levels: &mut [u8; TASKS], to: u8, p: u8)
 }
 
 // Each task's own priority, or the most urgent level that is lent to it by those that lead to it: one link of each chain.
-pub fn lent_levels<'a>(own: [u8; TASKS], to: &'a [u8; TASKS], level: &'a [u8; TASKS]) -> [u8; TASKS]
+pub fn lent_levels(own: [u8; TASKS], to: &[u8; TASKS], level: &[u8; TASKS]) -> [u8; TASKS]
     ensures { result ≡ lent_by own to.now level.now task_places }
 {
     let mut l = own;
