@@ -1,5 +1,5 @@
 -- A task's level read from a full table.
-use Rattle.std.proofs.Common.{◌≡◌, ℕ, List, length, get_or, refl, arith, inl, inr}
+use Rattle.std.proofs.Common.{◌≡◌, ℕ, List, length, get_or, refl, arith}
 use Rattle.std.proofs.Math.Decide.{dec_lt}
 use borrow.Author.Tests.{lt-ltb, le-ltb}
 use lib.ListN.{get_or-eq_default}

@@ -401,10 +401,6 @@ queue_step k w d space = cond (eqb k.started 0) (queue_made k w d no_id space) (
 unfoldable pub owned_queue_step : State → ℕ → ℕ → ℕ → ℕ → Plan
 owned_queue_step k w d o space = cond (eqb k.started 0) (cond (leb k.tasks.n o) (answer_in k 6 0) (queue_made k w d o space)) (answer_in k 4 0)
 
--- levels and the ready order where tasks have begun, or ended, to wait for room in a queue of this owner: without one nothing is lent
-abbrev pub order_behind : ℕ → Tasks → Mutexes → Queues → TaskList → Order
-order_behind owner t m x ready = cond (eqb owner no_id) (record { level = t.level; ready = ready }) (order_of t m x ready)
-
 -- the caller waits to send: where q has an owner, its levels and those up its chain may change
 unfoldable pub send_blocked : State → ℕ → ℕ → State
 send_blocked k q t =

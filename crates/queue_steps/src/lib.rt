@@ -9,7 +9,6 @@ ghost use Rattle.machine.specs.Machine.{width_at, used_at, place_at, best_at, se
 
 use moves::Move;
 use record::{NONE, ON_RECEIVE, ON_SEND, Plan, Queues, Refusal, State};
-use replies::answers::{DONE, WAITS};
 use replies::{answers, refusals};
 
 // A wait to send has begun or ended: where the queue has no owner nothing is lent, and levels stay.
@@ -38,7 +37,7 @@ fn wait_for_room(mut s: State, q: u8, time: u32) -> Plan
     effects::block(&mut s, ON_SEND, q, time);
     settle_behind(&mut s, owner);
     effects::dispatch(&mut s);
-    answers::moving(s, WAITS, u32::from(f.links), Move::Hold { task: caller })
+    answers::waits_moving(s, u32::from(f.links), Move::Hold { task: caller })
 }
 
 // The message goes to the best waiting receiver; where nobody waits, to the tail.
@@ -51,12 +50,12 @@ fn deliver(mut s: State, q: u8) -> Plan
         let used = queue_places::used_at(s.queues, q);
         let place = queue_places::place_of(s.queues, q, used);
         s.queues = objects::set_used(s.queues, q, used + 1);
-        return answers::moving(s, DONE, 0, Move::Queue { place });
+        return answers::done_moving(s, Move::Queue { place });
     }
     effects::grant(&mut s, best);
     effects::enter(&mut s, best);
     effects::dispatch(&mut s);
-    answers::moving(s, DONE, 0, Move::Hold { task: best })
+    answers::done_moving(s, Move::Hold { task: best })
 }
 
 // A message of `count` words: the owner of a full queue is refused, as only it could make room.
@@ -115,14 +114,14 @@ fn take(mut s: State, q: u8) -> Plan
     if best == NONE {
         let left = queue_places::used_at(before, q) - 1;
         s.queues = objects::set_used(s.queues, q, left);
-        return answers::moving(s, DONE, 0, taken(before, q, 0, caller));
+        return answers::done_moving(s, taken(before, q, 0, caller));
     }
     let owner = queue_places::owner_at(s.queues, q);
     effects::grant(&mut s, best);
     settle_behind(&mut s, owner);
     effects::enter(&mut s, best);
     effects::dispatch(&mut s);
-    answers::moving(s, DONE, 0, swapped(before, q, caller, best))
+    answers::done_moving(s, swapped(before, q, caller, best))
 }
 
 // Nobody but its owner receives from an owned queue.

@@ -1,8 +1,8 @@
 -- Laws of the refusals' numbers.
-use Rattle.std.specs.Prelude.{◌≡◌, refl, false, eqb, Result, Ok, Err}
+use Rattle.std.specs.Prelude.{◌≡◌, refl, false, eqb}
 use Rattle.record.specs.declared.refusal.Refusal.{Refusal}
 use Rattle.record.specs.declared.refusal.Refusal.TheVariants.{AtMaximum, WouldWait, WrongPhase, NoCaller, NoSuchObject, OutOfRange, NoRoom, OwnerAlready, NotOwner, Held, Ring, HoldLimit, NoStep, Unsound}
-use Rattle.record.specs.Refused.{refusal_number, refusal_code}
+use Rattle.record.specs.Refused.{refusal_number}
 
 -- no refusal has the number of what is done
 pub refusal_some : (why : Refusal) → eqb (refusal_number why) 0 ≡ false

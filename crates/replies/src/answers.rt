@@ -7,9 +7,9 @@ use moves::Move;
 use record::{Plan, Refusal, State, answers, refusal};
 
 // The numbers of a step that is accepted: it is done, or the caller now waits.
-pub const DONE: u8 = 0;
+const DONE: u8 = 0;
 
-pub const WAITS: u8 = 1;
+const WAITS: u8 = 1;
 
 // A step that moves words of a message.
 pub fn moving(s: State, number: u8, value: u32, m: Move) -> Plan
@@ -42,6 +42,20 @@ pub fn waits(s: State, links: u32) -> Plan
     ensures { result ≡ answer_in s 1 links }
 {
     answer(s, WAITS, links)
+}
+
+// A step that is done and moves words of a message.
+pub fn done_moving(s: State, m: Move) -> Plan
+    ensures { result ≡ answer_moving s 0 0 m }
+{
+    moving(s, DONE, 0, m)
+}
+
+// The caller waits, and words of its message are moved.
+pub fn waits_moving(s: State, links: u32, m: Move) -> Plan
+    ensures { result ≡ answer_moving s 1 links m }
+{
+    moving(s, WAITS, links, m)
 }
 
 // A step that is refused: the record is the one handed in.

@@ -12,8 +12,7 @@ use denote.Shadow.{shadow}
 use denote.Array.{each}
 use denote.Laws.{Is}
 use denote.Struct.Declared.{row}
-use Rattle.rules.specs.Sizes.{task_places, max_mutexes, max_semaphores, max_queues, word_size}
-use Rattle.task_lists.specs.TaskList.{places}
+use Rattle.rules.specs.Sizes.{max_mutexes, word_size}
 use Rattle.record.specs.declared.State.{State}
 use Rattle.record.specs.declared.Mutexes.{Mutexes}
 use Rattle.record.specs.GoodRecord.{Typed}

@@ -8,7 +8,7 @@ use native.Mathlib.Omega.{arith}
 use native.Mathlib.Decide.{dec_lt}
 use lib.ListN.{length, get_or-eq_default}
 use borrow.Author.Tests.{lt-ltb, eq-eqb}
-use Rattle.lists.specs.Test.{◌and◌, ◌or◌, allb}
+use Rattle.lists.specs.Test.{allb}
 use Rattle.lists.specs.TestLaws.{or_l, or_r, true_all, all_used}
 use Rattle.rules.specs.Sizes.{task_places, held_words}
 use Rattle.checks.specs.Checks.{unused_at}

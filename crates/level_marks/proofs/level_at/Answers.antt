@@ -1,5 +1,5 @@
 -- `level_marks::level_at` meets its contract. Assumes nothing.
-use Rattle.std.proofs.Common.{◌≡◌, length, sym, arith, rules}
+use Rattle.std.proofs.Common.{◌≡◌, length, rules}
 use Rattle.task_lists.specs.TaskList.{places}
 use Rattle.level_marks.proofs.Laws.{level_got}
 use Rattle.level_marks.proofs.level_at.Goals as goal

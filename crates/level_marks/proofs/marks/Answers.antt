@@ -1,12 +1,11 @@
 -- `level_marks::marks` meets its contract. The loop: the word marks the levels of the tasks passed.
-use borrow.Author.Rules.{rules}
 use mathlib.Core.Path.{◌≡◌, sym, ◌∙◌}
 use Prim.Native.Nat.{◌<◌}
 use native.Mathlib.Omega.{arith}
 use lib.ListN.{length, get_or, take}
 use lib.Seq.{take-length}
-use Rattle.task_lists.specs.TaskList.{items, places}
-use Rattle.task_lists.specs.ItemLaws.{items_few, items_take}
+use Rattle.task_lists.specs.TaskList.{items}
+use Rattle.task_lists.specs.ItemLaws.{items_take}
 use Rattle.level_marks.specs.Marks.{level_at}
 use Rattle.level_marks.specs.MarkLaws.{marks_nobody, marks_more}
 use Rattle.level_marks.proofs.marks.Goals as goal

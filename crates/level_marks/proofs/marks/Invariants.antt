@@ -1,6 +1,5 @@
 -- `level_marks::marks` meets its contract. The loop: the word marks the levels of the tasks passed.
 use mathlib.Core.Path.{◌≡◌}
-use Prim.Native.Nat.{◌-◌, ◌≤◌}
 use lib.ListN.{take}
 use Rattle.task_lists.specs.TaskList.{items}
 use Rattle.level_marks.specs.Marks.{marks_in}

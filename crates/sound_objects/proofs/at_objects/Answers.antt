@@ -1,5 +1,5 @@
 -- `sound_objects::at_objects` meets its contract. The loop: the places passed are filled.
-use Rattle.std.proofs.Common.{arith, rules, refl}
+use Rattle.std.proofs.Common.{arith, refl}
 use Rattle.lists.specs.FillLaws.{fill_done, fill_more, fill_none}
 use Rattle.rules.specs.Sizes.{task_places}
 use Rattle.checks.specs.Checks.{at_object}

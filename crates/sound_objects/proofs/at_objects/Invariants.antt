@@ -1,6 +1,5 @@
 -- `sound_objects::at_objects` meets its contract. The loop: the places passed hold what stands at their tasks' objects.
 use mathlib.Core.Path.{◌≡◌}
-use Prim.Native.Nat.{◌-◌, ◌≤◌}
 use Rattle.lists.specs.FillLaws.{so_far}
 use Rattle.rules.specs.Sizes.{task_places}
 use Rattle.checks.specs.Checks.{at_object}

@@ -1,8 +1,6 @@
 -- `sound_objects::blocked` meets its contract. The loop carries the test of the places passed. Assumes nothing.
 use mathlib.Core.Path.{◌≡◌}
-use Prim.Native.Nat.{◌-◌, ◌≤◌}
 use Rattle.lists.specs.Test.{allb}
-use Rattle.rules.specs.Sizes.{task_places}
 use Rattle.checks.specs.Checks.{blocked_fits_at}
 use Rattle.sound_objects.proofs.blocked.Given as goal
 

@@ -1,5 +1,5 @@
 -- `sound_objects::empties` meets its contract. The loop: the places passed are filled.
-use Rattle.std.proofs.Common.{arith, rules, refl}
+use Rattle.std.proofs.Common.{arith, rules}
 use Rattle.lists.specs.FillLaws.{fill_done, fill_more, fill_none}
 use Rattle.rules.specs.Sizes.{max_semaphores}
 use Rattle.checks.specs.Checks.{empty_at}

@@ -1,6 +1,5 @@
 -- `sound_objects::empties` meets its contract. The loop: the places passed have their flags.
 use mathlib.Core.Path.{◌≡◌}
-use Prim.Native.Nat.{◌-◌, ◌≤◌}
 use Rattle.lists.specs.FillLaws.{so_far}
 use Rattle.rules.specs.Sizes.{max_semaphores}
 use Rattle.checks.specs.Checks.{empty_at}

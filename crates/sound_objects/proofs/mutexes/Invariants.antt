@@ -1,8 +1,6 @@
 -- `sound_objects::mutexes` meets its contract. The loop carries the test of the places passed. Assumes nothing.
 use mathlib.Core.Path.{◌≡◌}
-use Prim.Native.Nat.{◌-◌, ◌≤◌}
 use Rattle.lists.specs.Test.{allb}
-use Rattle.rules.specs.Sizes.{max_mutexes}
 use Rattle.checks.specs.Checks.{mutex_fits_at}
 use Rattle.sound_objects.proofs.mutexes.Given as goal
 

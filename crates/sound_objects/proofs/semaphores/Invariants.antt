@@ -1,8 +1,6 @@
 -- `sound_objects::semaphores` meets its contract. The loop carries the test of the places passed. Assumes nothing.
 use mathlib.Core.Path.{◌≡◌}
-use Prim.Native.Nat.{◌-◌, ◌≤◌}
 use Rattle.lists.specs.Test.{allb}
-use Rattle.rules.specs.Sizes.{max_semaphores}
 use Rattle.checks.specs.Checks.{sem_fits_at}
 use Rattle.sound_objects.proofs.semaphores.Given as goal
 

@@ -1,8 +1,6 @@
 -- `sound_places::each_ends` meets its contract. The loop keeps that the chains of the first j owners end. Assumes nothing.
 use Rattle.std.proofs.Common.{ap, not}
 use borrow.Author.Rules.{rules}
-use mathlib.Core.Bool.{true}
-use Prim.Native.Nat.{◌-◌}
 use native.Mathlib.Omega.{arith}
 use Rattle.lists.specs.LoopLaws.{all_none, all_turn, all_done, all_stop}
 use Rattle.rules.specs.Sizes.{max_mutexes}

@@ -1,8 +1,6 @@
 -- `sound_queues::each_fits` meets its contract. The loop carries the test of the places passed. Assumes nothing.
 use mathlib.Core.Path.{◌≡◌}
-use Prim.Native.Nat.{◌-◌, ◌≤◌}
 use Rattle.lists.specs.Test.{allb}
-use Rattle.rules.specs.Sizes.{max_queues}
 use Rattle.checks.specs.Checks.{queue_fits_at}
 use Rattle.sound_queues.proofs.each_fits.Given as goal
 

@@ -1,8 +1,6 @@
 -- `sound_tables::none_for_objects` meets its contract. The loop carries the test of the places passed. Assumes nothing.
 use mathlib.Core.Path.{◌≡◌}
-use Prim.Native.Nat.{◌≤◌}
 use Rattle.lists.specs.Test.{allb}
-use Rattle.rules.specs.Sizes.{task_places}
 use Rattle.checks.specs.Checks.{no_object_at}
 use Rattle.sound_tables.proofs.none_for_objects.Given as goal
 

@@ -1,8 +1,6 @@
 -- `sound_tables::priorities` meets its contract. The loop carries the test of the places passed. Assumes nothing.
 use mathlib.Core.Path.{◌≡◌}
-use Prim.Native.Nat.{◌≤◌}
 use Rattle.lists.specs.Test.{allb}
-use Rattle.rules.specs.Sizes.{task_places}
 use Rattle.checks.specs.Checks.{priority_fits_by}
 use Rattle.sound_tables.proofs.priorities.Given as goal
 

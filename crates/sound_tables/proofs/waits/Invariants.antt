@@ -1,8 +1,6 @@
 -- `sound_tables::waits` meets its contract. The loop carries the test of the places passed. Assumes nothing.
 use mathlib.Core.Path.{◌≡◌}
-use Prim.Native.Nat.{◌≤◌}
 use Rattle.lists.specs.Test.{allb}
-use Rattle.rules.specs.Sizes.{task_places}
 use Rattle.checks.specs.Checks.{wait_fits_at}
 use Rattle.sound_tables.proofs.waits.Given as goal
 

@@ -1,15 +1,10 @@
 -- `sound_waiters::each_fits` meets its contract. The loop keeps that the first i tasks pass. Assumes nothing.
 use Rattle.std.proofs.Common.{ap, not}
 use borrow.Author.Rules.{rules}
-use mathlib.Core.List.{List}
-use mathlib.Core.Bool.{Bool, true}
-use Prim.Native.Nat.{ℕ, ◌-◌}
 use native.Mathlib.Omega.{arith}
-use lib.ListN.{get_or}
 use Rattle.lists.specs.LoopLaws.{all_none, all_turn, all_done, all_stop}
 use Rattle.rules.specs.Sizes.{task_places}
-use Rattle.record.specs.declared.Queues.{Queues}
-use Rattle.checks.specs.Checks.{queue_wait_fits, queue_waits_in}
+use Rattle.checks.specs.Checks.{queue_waits_in}
 use Rattle.sound_waiters.proofs.each_fits.Invariants.{fits_at}
 use Rattle.sound_waiters.proofs.each_fits.Goals as goal
 

@@ -1,8 +1,6 @@
 -- `sound_waiters::none_waits` meets its contract. The loop carries the test of the places passed. Assumes nothing.
 use mathlib.Core.Path.{◌≡◌}
-use Prim.Native.Nat.{◌-◌, ◌≤◌}
 use Rattle.lists.specs.Test.{allb}
-use Rattle.rules.specs.Sizes.{task_places}
 use Rattle.sound_waiters.proofs.Laws.{elsewhere_at}
 use Rattle.sound_waiters.proofs.none_waits.Given as goal
 

@@ -5,7 +5,6 @@ use Prim.Native.Nat.{ℕ, ◌+◌, ◌*◌}
 use lib.Dec.{ltb, eqb}
 use lib.ListN.{get_or}
 use mathlib.Core.Path.{◌≡◌}
-use Prim.Native.Nat.{◌-◌, ◌≤◌}
 use Rattle.lists.specs.Test.{◌or◌, allb}
 use Rattle.rules.specs.Sizes.{held_words}
 use Rattle.sound_words.proofs.past.Given as goal

@@ -1,8 +1,8 @@
 -- `sound_words::zero_from` meets its contract. The loop carries the test of the words passed; those before the first pass anyway, and so do those behind the end. Assumes nothing.
 use mathlib.Core.Path.{◌≡◌}
 use mathlib.Core.Logic.{◌⊎◌}
-use Prim.Native.Nat.{◌*◌, ◌-◌, ◌≤◌}
-use Rattle.lists.specs.Test.{◌or◌, allb}
+use Prim.Native.Nat.{◌*◌, ◌≤◌}
+use Rattle.lists.specs.Test.{allb}
 use Rattle.rules.specs.Sizes.{held_words, task_places}
 use Rattle.checks.specs.Checks.{unused_at}
 use Rattle.sound_words.proofs.zero_from.Given as goal

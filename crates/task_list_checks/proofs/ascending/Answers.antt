@@ -1,8 +1,6 @@
 -- `task_list_checks::ascending` meets its contract. The loop: the neighbours passed are in order, so the test of the items from the last one passed on is the test of all.
-use borrow.Author.Rules.{rules}
-use Rattle.std.proofs.Common.{◌≡◌, length, sym, ◌∙◌, arith, rules}
-use Rattle.task_lists.specs.TaskList.{key_of, places}
-use Rattle.task_lists.specs.ItemLaws.{items_few}
+use Rattle.std.proofs.Common.{sym, ◌∙◌, arith}
+use Rattle.task_lists.specs.TaskList.{key_of}
 use Rattle.task_list_checks.proofs.Laws.{ascb_on, ascb_fail, ascb_end}
 use Rattle.task_list_checks.proofs.ascending.Goals as goal
 

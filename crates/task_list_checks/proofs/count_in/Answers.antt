@@ -1,8 +1,7 @@
 -- `task_list_checks::count_in` meets its contract. The loop: what counting the items that are left makes of the counts is what counting all makes of the first.
 use borrow.Author.Rules.{rules}
-use Rattle.std.proofs.Common.{◌≡◌, ◌<◌, length, sym, refl, ap, ◌∙◌, arith, length-set, rules}
-use Rattle.task_lists.specs.TaskList.{items, places}
-use Rattle.task_lists.specs.ItemLaws.{items_few}
+use Rattle.std.proofs.Common.{◌<◌, length, sym, refl, ap, ◌∙◌, arith, length-set, rules}
+use Rattle.task_lists.specs.TaskList.{items}
 use Rattle.task_list_checks.proofs.Laws.{counted_step, counted_skip, counted_end}
 use Rattle.task_list_checks.proofs.count_in.Goals as goal
 use Rattle.task_list_checks.proofs.count_in.Goals.{then-j-lt-PLACES, else-j-lt-PLACES}

@@ -1,8 +1,6 @@
 -- `task_list_checks::ties_by_id` meets its contract. The loop: the neighbours passed are in order, so the test of the items from the last one passed on is the test of all.
-use borrow.Author.Rules.{rules}
-use Rattle.std.proofs.Common.{◌≡◌, ◌<◌, length, sym, ◌∙◌, arith, rules}
-use Rattle.task_lists.specs.TaskList.{items, key_of, places}
-use Rattle.task_lists.specs.ItemLaws.{items_few}
+use Rattle.std.proofs.Common.{◌<◌, length, sym, ◌∙◌, arith}
+use Rattle.task_lists.specs.TaskList.{items, key_of}
 use Rattle.task_list_checks.proofs.Laws.{tiesb_apart, tiesb_on, tiesb_fail, tiesb_end}
 use Rattle.task_list_checks.proofs.ties_by_id.Goals as goal
 use Rattle.task_list_checks.proofs.ties_by_id.Goals.{then-key_of+else-y-x, else-key_of}

@@ -1,5 +1,5 @@
 -- `task_list_checks::used_places` meets its contract. The loop: the places passed have their flags.
-use Rattle.std.proofs.Common.{◌≡◌, ◌-◌, ◌≤◌}
+use Rattle.std.proofs.Common.{◌≡◌}
 use Rattle.lists.specs.FillLaws.{so_far}
 use Rattle.rules.specs.Sizes.{task_places}
 use Rattle.task_lists.specs.TaskList.{used_at}

@@ -1,10 +1,8 @@
 -- `task_lists::best_waiter` meets its contract. The loop over the levels: the first found from this level on is the first found from level 0 on; the loop in it: the first of this level among the waiters from this place on is the first of all.
 use borrow.Author.Rules.{rules}
-use mathlib.Core.Path.{◌≡◌, refl, ap, sym, ◌∙◌}
+use mathlib.Core.Path.{refl, ap, sym, ◌∙◌}
 use native.Mathlib.Omega.{arith}
-use lib.ListN.{length}
-use Rattle.task_lists.specs.TaskList.{key_of, id_of, places}
-use Rattle.task_lists.specs.ItemLaws.{items_few}
+use Rattle.task_lists.specs.TaskList.{key_of, id_of}
 use Rattle.task_lists.proofs.Laws.{first_hit, first_miss, first_end, from_hit, from_miss, from_end, nobody, best_of_lem}
 use Rattle.task_lists.proofs.best_waiter.Goals as goal
 

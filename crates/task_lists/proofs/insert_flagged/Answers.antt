@@ -1,11 +1,9 @@
 -- `task_lists::insert_flagged` meets its contract. The loop: the table and its count, with the tasks of the order still to come tried, are the whole list.
-use borrow.Author.Rules.{rules}
-use mathlib.Core.Path.{◌≡◌, refl, sym, ◌∙◌}
+use mathlib.Core.Path.{refl, sym, ◌∙◌}
 use Prim.Native.Nat.{◌<◌}
 use native.Mathlib.Omega.{arith}
 use lib.ListN.{length}
-use Rattle.task_lists.specs.TaskList.{places, items, first_ids}
-use Rattle.task_lists.specs.ItemLaws.{items_few}
+use Rattle.task_lists.specs.TaskList.{items, first_ids}
 use Rattle.task_lists.proofs.Laws.{flagged_on, flagged_off, flagged_end}
 use Rattle.task_lists.proofs.insert_flagged.Goals as goal
 use Rattle.task_lists.proofs.insert_flagged.Goals.{then-key_in-eq1, else-key_in-eq1}

@@ -1,7 +1,5 @@
 -- `room::refusal` meets its contract.
 use borrow.Author.Rules.{rules}
-use native.Mathlib.Omega.{arith}
-use native.Mathlib.Nat.{mul-le-mul}
 use Rattle.lists.specs.Test.{◌and◌}
 use Rattle.record.specs.Refused.{refusal_code, refusal_number}
 use Rattle.set_up_steps.proofs.room.refusal.Goals as goal

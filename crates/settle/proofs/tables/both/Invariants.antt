@@ -1,6 +1,5 @@
 -- `settle::tables::both` meets its contract.
 use mathlib.Core.Path.{◌≡◌}
-use Prim.Native.Nat.{◌-◌, ◌≤◌}
 use Rattle.machine.specs.Machine.{both_flag}
 use Rattle.lists.specs.FillLaws.{so_far}
 use Rattle.rules.specs.Sizes.{task_places}

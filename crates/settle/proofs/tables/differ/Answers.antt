@@ -1,6 +1,5 @@
 -- `settle::tables::differ` meets its contract. The loop: the places passed have their flags.
 use Rattle.std.proofs.Common.{arith, rules}
-use Rattle.std.proofs.lemmas.Grind.{common_steps}
 use Rattle.machine.specs.Machine.{differs, differ_flag}
 use Rattle.lists.specs.FillLaws.{fill_done, fill_more, fill_none}
 use Rattle.rules.specs.Sizes.{task_places}

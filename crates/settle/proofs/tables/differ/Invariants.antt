@@ -1,6 +1,5 @@
 -- `settle::tables::differ` meets its contract.
 use mathlib.Core.Path.{◌≡◌}
-use Prim.Native.Nat.{◌-◌, ◌≤◌}
 use Rattle.machine.specs.Machine.{differ_flag}
 use Rattle.lists.specs.FillLaws.{so_far}
 use Rattle.rules.specs.Sizes.{task_places}
