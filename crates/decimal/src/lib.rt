@@ -13,8 +13,10 @@ const ZERO: u8 = b'0';
 fn with_digit(n: u32, c: u8) -> Option<u32>
     ensures { result ≡ with_digit n c }
 {
-    let digit = char::from(c).to_digit(10)?;
-    n.checked_mul(10)?.checked_add(digit)
+    if !c.is_ascii_digit() {
+        return None;
+    }
+    n.checked_mul(10)?.checked_add(u32::from(c - ZERO))
 }
 
 // The number that s is in decimal.
