@@ -2,7 +2,7 @@
 use Rattle.std.proofs.Math.Path.{◌≡◌, refl, ap}
 use Rattle.std.proofs.Common.{sym, ◌∙◌}
 use mathlib.Core.List.{List, [], ◌∷◌}
-use Rattle.std.specs.Prelude.{true, false, ℕ, ◌+◌, ◌≤◌, eqb, Some, None, Option as RustOption}
+use Rattle.std.specs.Prelude.{true, false, ℕ, ◌+◌, ◌≤◌, ◌<◌, eqb, Some, None, Option as RustOption}
 use Rattle.std.proofs.Math.Logic.{inl, inr}
 use native.Mathlib.Omega.{arith}
 use Rattle.std.proofs.Math.ListN.{length}
@@ -16,9 +16,17 @@ use Rattle.record.specs.StepRecord.{After, stays}
 use Rattle.record.specs.Whole.{Whole}
 use Rattle.record.specs.declared.Answer.{Answer}
 use Rattle.text.specs.Place.{room, put_answer, put_bytes}
+use Rattle.text.specs.Ascii.{ascii}
+use Rattle.words.specs.Form.{same_bytes, header_bytes}
+use Rattle.log_lines.specs.LogLine.{log_bytes, bad_bytes}
 use Rattle.script_lines.specs.LineRun.{awaiting, running, line_answered, line_for, head_log, head_stage, headed, memory_head}
 use Rattle.script.specs.Session.{log_at, line_log, line_whole, line_stage, Taken, line_taken, taken_memory, step_at, logged_at, line_in, lineb, found_taken, found_memory}
 use Rattle.script_lines.specs.declared.run.Headed.{Headed}
+
+-- no log line is empty: the first one
+head_some : (line : List ℕ) → 0 < length (head_log line)
+unfolding head_log log_bytes bad_bytes ascii
+head_some line = by_test {A = List ℕ} (λ l. 0 < length l) (same_bytes line header_bytes) (λ e. omega arith) (λ e. omega arith)
 
 none_some : {A : Type 0} {x : A} → ◌≡◌ {A = RustOption A} None (Some x) → ⊥
 none_some e = let z : ◌≡◌ {A = ℕ} 0 1 = cc in omega arith
