@@ -1,5 +1,5 @@
 // Sleep and tick: the refusals in the order of the table, then what the step does.
-#![tactic(auto, using(record::specs::RefusedLaws::refusal_some), unfolding(record::specs::Refused::refusal_code, record::specs::Refused::refusal_number, machine::specs::Machine::called_by, machine::specs::Machine::sleep_step, machine::specs::Machine::tick_step, machine::specs::Machine::woke))]
+#![tactic(auto, using(record::specs::RefusedLaws::refusal_some), unfolding(machine::specs::Machine::blocked_on, record::specs::Refused::refusal_code, record::specs::Refused::refusal_number, machine::specs::Machine::called_by, machine::specs::Machine::sleep_step, machine::specs::Machine::tick_step, machine::specs::Machine::woke))]
 
 ghost use Rattle.std.specs.Prelude.{◌≡◌};
 ghost use Rattle.machine.specs.Machine.{tick_step, sleep_step};

@@ -14,7 +14,7 @@ returns c =
     let all = lines c.args.text.now in
     let e : lines_from c.over.result.text.now c.over.result.at ≡ all = search rules in
     let y : option_map (λ x. x.now) c.nth.result ≡ slice_get all c.args.n =
-    nth_from_yields_List _ c.nth.new.self c.args.n c.nth.ensures.ran (YieldsList-from_first (λ l. l.now) (λ r. lines_from r.text.now r.at) all e) in
+    nth_from_yields_List _ c.nth.new.self _ c.nth.ensures.ran (YieldsList-from_first (λ l. l.now) (λ r. lines_from r.text.now r.at) all e) ∙ ap (slice_get all) (search rules) in
     ap (λ x. x.now) c.unwrap_or.ensures
     ∙ part_or c.nth.result _
     ∙ ap (λ o. unwrap_or o []) y

@@ -16,7 +16,8 @@ returns c =
     let a = c.args in
     let s = c.split.ensures in
     let y : option_map (λ x. x.now) c.nth.result ≡ slice_get (slice_split (λ x. eqb x tab) a.line.now) a.n =
-    nth_from_yields_List _ c.nth.new.self a.n c.nth.ensures.ran (YieldsList-from_slice_split _ (λ x. eqb x tab) a.line.now s.rest s.done s.closure (λ x b q h. search (rules, tests))) in
+    nth_from_yields_List _ c.nth.new.self _ c.nth.ensures.ran (YieldsList-from_slice_split _ (λ x. eqb x tab) a.line.now s.rest s.done s.closure (λ x b q h. search (rules, tests)))
+    ∙ ap (slice_get (slice_split (λ x. eqb x tab) a.line.now)) (search rules) in
     ap (λ x. x.now) c.unwrap_or.ensures
     ∙ part_or c.nth.result _
     ∙ ap (λ o. unwrap_or o []) y
